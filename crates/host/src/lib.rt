@@ -1,0 +1,3 @@
+// The interface to the errors of a site, and what is asked of them over any host.
+pub mod host;
+pub mod text;

@@ -1,0 +1,90 @@
+-- Class and pair of an error, and what a list of errors comes to.
+use mathlib.Core.Bool.{Bool, true, false, cond, not, _&&_, _||_}
+use mathlib.Core.List.{List, [], _∷_, map}
+use Prim.Native.Nat.{ℕ}
+use lib.Dec.{eqb}
+use Rattle.std.specs.declared.option.Option.{Option}
+use Rattle.std.specs.declared.option.Option.the-variants.{Some, None}
+use Rattle.vocabulary.specs.Class.{classAt, lesser, rank}
+use Rattle.vocabulary.specs.IoKind.{ioClass, ioNumber}
+use Rattle.vocabulary.specs.declared.class.Class.{Class}
+use Rattle.vocabulary.specs.declared.io_kind.IoKind.{IoKind}
+use Rattle.vocabulary.specs.declared.kind.Kind.{Kind}
+use Rattle.vocabulary.specs.declared.kind.Kind.the-variants.{Plain, Message, ClassificationMarker, TryReserveError, Io}
+use Rattle.vocabulary.specs.declared.policy.Pair.{Pair}
+use Rattle.model.specs.Host.{Error, Errors}
+use Rattle.model.specs.Sources.{sources}
+
+abbrev pub hasRank : ℕ → Option Class → Bool
+hasRank n None = false
+hasRank n (Some c) = eqb (rank c) n
+
+-- the class that a message or a marker states
+abbrev pub statedClass : Kind → Option Class
+statedClass Plain = None
+statedClass (Message c) = c
+statedClass (ClassificationMarker c) = Some c
+statedClass TryReserveError = None
+statedClass (Io k) = None
+
+abbrev pub any : (ℕ → Bool) → List ℕ → Bool
+any p [] = false
+any p (x ∷ xs) = p x || any p xs
+
+-- a message or a marker that asks for credentials: its class is Unauthenticated
+abbrev pub asksLogin : Option Error → Bool
+asksLogin None = false
+asksLogin (Some m) = hasRank 6 (statedClass (m .kind))
+
+-- some source beneath the error asks for credentials
+abbrev pub loginBeneath : Errors → ℕ → Bool
+loginBeneath h e = any (λ d. asksLogin (h d)) (sources h e)
+
+-- the class of an io error, given whether a source beneath it asks for credentials: then a denied permission has none
+abbrev pub ioErrorClass : IoKind → Bool → Option Class
+ioErrorClass k login = cond (eqb (ioNumber k) 2 && login) None (ioClass (ioNumber k))
+
+-- the class of an error of a kind, given whether a source beneath it asks for credentials
+abbrev pub kindClass : Kind → Bool → Option Class
+kindClass Plain login = None
+kindClass (Message c) login = c
+kindClass (ClassificationMarker c) login = Some c
+kindClass TryReserveError login = classAt 3
+kindClass (Io k) login = ioErrorClass k login
+
+abbrev pub kindIo : Kind → Option IoKind
+kindIo Plain = None
+kindIo (Message c) = None
+kindIo (ClassificationMarker c) = None
+kindIo TryReserveError = None
+kindIo (Io k) = Some k
+
+abbrev pub kindPair : Kind → Bool → Pair
+kindPair k login = record { class = kindClass k login; «io_kind» = kindIo k }
+
+-- the pair of an error: its class and its io kind; of a number that is not live, neither
+abbrev pub told : Option Error → Bool → Pair
+told None login = record { class = None; «io_kind» = None }
+told (Some m) login = kindPair (m .kind) login
+
+abbrev pub pairOf : Errors → ℕ → Pair
+pairOf h e = told (h e) (loginBeneath h e)
+
+-- the least class among pairs, or none
+abbrev pub leastClass : List Pair → Option Class
+leastClass [] = None
+leastClass (p ∷ ps) = lesser (p .class) (leastClass ps)
+
+abbrev pub anyPair : (Pair → Bool) → List Pair → Bool
+anyPair accepts [] = false
+anyPair accepts (p ∷ ps) = accepts p || anyPair accepts ps
+
+abbrev pub cancelled : Pair → Bool
+cancelled p = hasRank 0 (p .class)
+
+-- retry under a policy: no pair is Cancelled, and the policy accepts one
+abbrev pub mayRetry : (Pair → Bool) → List Pair → Bool
+mayRetry accepts ps = not (anyPair cancelled ps) && anyPair accepts ps
+
+abbrev pub pairsOf : Errors → List ℕ → List Pair
+pairsOf h es = map (pairOf h) es

@@ -1,0 +1,6 @@
+pub mod Ascii
+pub mod Class
+pub mod IoKind
+pub mod Kind
+pub mod Policy
+pub mod Refusal
