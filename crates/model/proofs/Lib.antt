@@ -1,1 +1,3 @@
+pub mod Judge
 pub mod Sources
+pub mod Steps

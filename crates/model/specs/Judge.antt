@@ -31,26 +31,26 @@ abbrev pub any : (ℕ → Bool) → List ℕ → Bool
 any p [] = false
 any p (x ∷ xs) = p x || any p xs
 
--- a message or a marker that asks for credentials: its class is Unauthenticated
-abbrev pub asksLogin : Option Error → Bool
-asksLogin None = false
-asksLogin (Some m) = hasRank 6 (statedClass (m .kind))
+-- an authentication challenge: a message or a marker whose class is Unauthenticated
+abbrev pub isChallenge : Option Error → Bool
+isChallenge None = false
+isChallenge (Some m) = hasRank 6 (statedClass (m .kind))
 
--- some source beneath the error asks for credentials
-abbrev pub loginBeneath : Errors → ℕ → Bool
-loginBeneath h e = any (λ d. asksLogin (h d)) (sources h e)
+-- some source beneath the error is a challenge
+abbrev pub challengeBeneath : Errors → ℕ → Bool
+challengeBeneath h e = any (λ d. isChallenge (h d)) (sources h e)
 
--- the class of an io error, given whether a source beneath it asks for credentials: then a denied permission has none
+-- the class of an io error, given whether a challenge stands beneath it: a denied permission then has none
 abbrev pub ioErrorClass : IoKind → Bool → Option Class
-ioErrorClass k login = cond (eqb (ioNumber k) 2 && login) None (ioClass (ioNumber k))
+ioErrorClass k challenged = cond (eqb (ioNumber k) 2 && challenged) None (ioClass (ioNumber k))
 
--- the class of an error of a kind, given whether a source beneath it asks for credentials
+-- the class of an error of a kind, given whether a challenge stands beneath it
 abbrev pub kindClass : Kind → Bool → Option Class
-kindClass Plain login = None
-kindClass (Message c) login = c
-kindClass (ClassificationMarker c) login = Some c
-kindClass TryReserveError login = classAt 3
-kindClass (Io k) login = ioErrorClass k login
+kindClass Plain challenged = None
+kindClass (Message c) challenged = c
+kindClass (ClassificationMarker c) challenged = Some c
+kindClass TryReserveError challenged = classAt 3
+kindClass (Io k) challenged = ioErrorClass k challenged
 
 abbrev pub kindIo : Kind → Option IoKind
 kindIo Plain = None
@@ -60,15 +60,15 @@ kindIo TryReserveError = None
 kindIo (Io k) = Some k
 
 abbrev pub kindPair : Kind → Bool → Pair
-kindPair k login = record { class = kindClass k login; «io_kind» = kindIo k }
+kindPair k challenged = record { class = kindClass k challenged; «io_kind» = kindIo k }
 
 -- the pair of an error: its class and its io kind; of a number that is not live, neither
 abbrev pub told : Option Error → Bool → Pair
-told None login = record { class = None; «io_kind» = None }
-told (Some m) login = kindPair (m .kind) login
+told None challenged = record { class = None; «io_kind» = None }
+told (Some m) challenged = kindPair (m .kind) challenged
 
 abbrev pub pairOf : Errors → ℕ → Pair
-pairOf h e = told (h e) (loginBeneath h e)
+pairOf h e = told (h e) (challengeBeneath h e)
 
 -- the least class among pairs, or none
 abbrev pub leastClass : List Pair → Option Class

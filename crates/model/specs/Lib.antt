@@ -1,3 +1,4 @@
+pub mod Challenge
 pub mod Host
-pub mod Sources
 pub mod Judge
+pub mod Sources

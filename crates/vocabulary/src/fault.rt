@@ -23,7 +23,7 @@ impl HostFault {
 }
 
 // Why a layer does not wrap an error.
-#[derive(Clone, Copy)]
+#[derive(Clone, Copy, Debug, PartialEq, Eq)]
 pub enum LayerFault {
     // the host turned the question down
     Host(HostFault),
