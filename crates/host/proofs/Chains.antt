@@ -7,8 +7,8 @@ use native.Mathlib.Omega.{arith}
 use Rattle.std.specs.declared.option.Option.{Option}
 use Rattle.std.specs.declared.option.Option.the-variants.{Some, None}
 use Rattle.std.specs.declared.result.Result.the-variants.{Ok, Err}
-use Rattle.vocabulary.specs.Class.{lesser}
-use Rattle.vocabulary.specs.declared.class.Class.{Class}
+use Rattle.classes.specs.Class.{lesser}
+use Rattle.classes.specs.declared.class.Class.{Class}
 use Rattle.vocabulary.specs.declared.kind.Kind.{Kind}
 use Rattle.vocabulary.specs.declared.policy.Pair.{Pair}
 use Rattle.model.specs.Challenge.{or, itself, deepest, beneath}

@@ -2,15 +2,15 @@
 ghost use mathlib.Core.Path.{_≡_};
 ghost use mathlib.Core.Bool.{Bool, cond, _||_};
 ghost use Rattle.std.specs.declared.option.Option.the-variants.{Some, None};
-ghost use Rattle.vocabulary.specs.Class.{lesser};
+ghost use Rattle.classes.specs.Class.{lesser};
 ghost use Rattle.model.specs.Challenge.{beneath, deepest, or};
 ghost use Rattle.model.specs.Host.{answer};
 ghost use Rattle.model.specs.Judge.{hasRank, ioErrorClass, kindPair, leastClass, mayRetry, pairOf, statedClass};
 ghost use Rattle.model.specs.Sources.{chain};
 ghost use Rattle.host.specs.Findings.{chainPairs, findingsOf, retries};
 use crate::host::Host;
-use vocabulary::class::Class;
-use vocabulary::class::ClassPartialEq;
+use classes::class::Class;
+use classes::class::ClassPartialEq;
 use vocabulary::fault::HostFault;
 use vocabulary::io_kind::IoKind;
 use vocabulary::kind::Kind;

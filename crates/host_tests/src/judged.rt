@@ -1,12 +1,12 @@
 // Class and verdicts of single errors.
 use crate::reading;
+use drive_host::drive::DriveHost;
+use drive_host::drive::DriveHostHost;
 use host::judge::pair;
-use hosts::drive::DriveHost;
-use hosts::drive::DriveHostHost;
-use hosts::marked::Marked;
-use hosts::marked::MarkedHost;
-use hosts::wrapped::Wrapped;
-use hosts::wrapped::WrappedHost;
+use layers::marked::Marked;
+use layers::marked::MarkedHost;
+use layers::wrapped::Wrapped;
+use layers::wrapped::WrappedHost;
 use std::test::*;
 use vocabulary::fault::HostFaultDebug;
 use vocabulary::fault::HostFaultPartialEq;

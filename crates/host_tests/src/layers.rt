@@ -1,11 +1,11 @@
 // Numbers at each edge of the drive host and of the layers.
+use drive_host::drive::DriveHost;
+use drive_host::drive::DriveHostHost;
 use host::host::Host;
-use hosts::drive::DriveHost;
-use hosts::drive::DriveHostHost;
-use hosts::marked::Marked;
-use hosts::marked::MarkedHost;
-use hosts::wrapped::Wrapped;
-use hosts::wrapped::WrappedHost;
+use layers::marked::Marked;
+use layers::marked::MarkedHost;
+use layers::wrapped::Wrapped;
+use layers::wrapped::WrappedHost;
 use std::test::*;
 use vocabulary::fault::HostFault;
 use vocabulary::fault::HostFaultDebug;

@@ -1,12 +1,12 @@
 // The table host: which records are live, and what they tell.
 use host::host::Host;
-use hosts::marked::Marked;
-use hosts::record::Record;
-use hosts::table::TableHost;
-use hosts::table::TableHostHost;
+use layers::marked::Marked;
 use std::alloc::AllocError;
 use std::alloc::Global;
 use std::test::*;
+use table_host::record::Record;
+use table_host::table::TableHost;
+use table_host::table::TableHostHost;
 use vocabulary::fault::HostFault;
 use vocabulary::fault::HostFaultDebug;
 use vocabulary::fault::HostFaultPartialEq;

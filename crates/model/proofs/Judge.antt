@@ -12,8 +12,8 @@ use Rattle.std.proofs.shelf.Tests.{or-parts}
 use Rattle.std.specs.Options.{isSome}
 use Rattle.std.specs.declared.option.Option.{Option}
 use Rattle.std.specs.declared.option.Option.the-variants.{Some, None}
-use Rattle.vocabulary.specs.Class.{lesser, rank}
-use Rattle.vocabulary.specs.declared.class.Class.{Class}
+use Rattle.classes.specs.Class.{lesser, rank}
+use Rattle.classes.specs.declared.class.Class.{Class}
 use Rattle.vocabulary.specs.declared.policy.Pair.{Pair}
 use Rattle.model.specs.Challenge.{or, itself, deepest, beneath}
 use Rattle.model.specs.Host.{Error, Errors, Lawful}

@@ -5,9 +5,9 @@ use Prim.Native.Nat.{ℕ}
 use lib.Dec.{eqb}
 use Rattle.std.specs.declared.option.Option.{Option}
 use Rattle.std.specs.declared.option.Option.the-variants.{Some, None}
-use Rattle.vocabulary.specs.Class.{classAt, lesser, rank}
+use Rattle.classes.specs.Class.{classAt, lesser, rank}
 use Rattle.vocabulary.specs.IoKind.{ioClass, ioNumber}
-use Rattle.vocabulary.specs.declared.class.Class.{Class}
+use Rattle.classes.specs.declared.class.Class.{Class}
 use Rattle.vocabulary.specs.declared.io_kind.IoKind.{IoKind}
 use Rattle.vocabulary.specs.declared.kind.Kind.{Kind}
 use Rattle.vocabulary.specs.declared.kind.Kind.the-variants.{Plain, Message, ClassificationMarker, TryReserveError, Io}

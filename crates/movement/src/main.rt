@@ -1,10 +1,10 @@
 // One failed movement of the drive from beginning to end: the error that it ended with, the sources beneath it with
 // their texts and kinds, then the class and both verdicts.
+use drive_host::drive::DriveHost;
+use drive_host::drive::DriveHostHost;
 use host::host::Host;
 use host::judge::dominant_class;
 use host::judge::retry;
-use hosts::drive::DriveHost;
-use hosts::drive::DriveHostHost;
 use std::env;
 use std::error::AnyError;
 use vocabulary::fault::HostFault;

@@ -6,9 +6,9 @@ use lib.Dec.{eqb, leb}
 use Rattle.std.specs.shelf.Maps.{nth}
 use Rattle.std.specs.declared.option.Option.{Option}
 use Rattle.std.specs.declared.option.Option.the-variants.{Some, None}
-use Rattle.vocabulary.specs.Ascii.{ascii}
-use Rattle.vocabulary.specs.Class.{classAt}
-use Rattle.vocabulary.specs.declared.class.Class.{Class}
+use Rattle.classes.specs.Ascii.{ascii}
+use Rattle.classes.specs.Class.{classAt}
+use Rattle.classes.specs.declared.class.Class.{Class}
 use Rattle.vocabulary.specs.declared.io_kind.IoRow.{IoRow}
 use Rattle.vocabulary.specs.declared.io_kind.IoKind.{IoKind}
 use Rattle.vocabulary.specs.declared.io_kind.IoKind.the-variants.{Other, NotFound, PermissionDenied, Unsupported, OutOfMemory, Interrupted, TimedOut, UnexpectedEof, BrokenPipe, AddrInUse, ConnectionAborted, ConnectionReset, ConnectionRefused, WouldBlock, AlreadyExists, InvalidData}

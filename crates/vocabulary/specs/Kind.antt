@@ -7,10 +7,10 @@ use Rattle.std.specs.Options.{mapped}
 use Rattle.std.specs.shelf.Maps.{nth}
 use Rattle.std.specs.declared.option.Option.{Option}
 use Rattle.std.specs.declared.option.Option.the-variants.{Some, None}
-use Rattle.vocabulary.specs.Ascii.{ascii}
-use Rattle.vocabulary.specs.Class.{classAt}
+use Rattle.classes.specs.Ascii.{ascii}
+use Rattle.classes.specs.Class.{classAt}
 use Rattle.vocabulary.specs.IoKind.{ioKindAt}
-use Rattle.vocabulary.specs.declared.class.Class.{Class}
+use Rattle.classes.specs.declared.class.Class.{Class}
 use Rattle.vocabulary.specs.declared.io_kind.IoKind.{IoKind}
 use Rattle.vocabulary.specs.declared.kind.Kind.{Kind}
 use Rattle.vocabulary.specs.declared.kind.Kind.the-variants.{Plain, Message, ClassificationMarker, TryReserveError, Io}

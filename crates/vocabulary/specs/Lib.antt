@@ -1,5 +1,3 @@
-pub mod Ascii
-pub mod Class
 pub mod IoKind
 pub mod Kind
 pub mod Policy

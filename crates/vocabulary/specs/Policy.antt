@@ -3,8 +3,8 @@ use mathlib.Core.Bool.{Bool, true, false, _||_}
 use Rattle.std.specs.declared.option.Option.{Option}
 use Rattle.std.specs.declared.option.Option.the-variants.{Some, None}
 use Rattle.vocabulary.specs.IoKind.{between, ioNumber}
-use Rattle.vocabulary.specs.Class.{rank}
-use Rattle.vocabulary.specs.declared.class.Class.{Class}
+use Rattle.classes.specs.Class.{rank}
+use Rattle.classes.specs.declared.class.Class.{Class}
 use Rattle.vocabulary.specs.declared.io_kind.IoKind.{IoKind}
 use Rattle.vocabulary.specs.declared.policy.Pair.{Pair}
 use Prim.Native.Nat.{ℕ}

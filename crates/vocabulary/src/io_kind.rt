@@ -1,7 +1,7 @@
 ghost use mathlib.Core.Path.{_≡_};
 ghost use Rattle.vocabulary.specs.IoKind.{ioKindAt, ioNumber, ioName, ioRow};
-use crate::class::Class;
-use crate::class::ResourceExhaustionKind;
+use classes::class::Class;
+use classes::class::ResourceExhaustionKind;
 
 // The kind of an io error; `Other` stands for every kind that is not named.
 #[derive(Clone, Copy, Debug, PartialEq, Eq)]

@@ -1,7 +1,7 @@
 ghost use mathlib.Core.Path.{_≡_};
 ghost use Rattle.vocabulary.specs.Kind.{kindAt, kindName, kindNumber, isMarker, sourceless};
-use crate::class::Class;
 use crate::io_kind::IoKind;
+use classes::class::Class;
 
 // What an error is: a plain error, a message with a class or none, a marker that only adds a class to the error that
 // it marks, a failed reservation of memory, or an io error.

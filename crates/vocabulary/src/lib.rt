@@ -1,5 +1,4 @@
-// The words of the subject: classes, io kinds, kinds of error and policies, each with its numbers.
-pub mod class;
+// The words of the subject: io kinds, kinds of error, refusals and policies, each with its numbers.
 pub mod fault;
 pub mod io_kind;
 pub mod kind;

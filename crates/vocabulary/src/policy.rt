@@ -2,9 +2,9 @@ ghost use mathlib.Core.Path.{_≡_};
 ghost use mathlib.Core.Bool.{Bool};
 ghost use Rattle.vocabulary.specs.Policy.{standard};
 ghost use Rattle.vocabulary.specs.declared.policy.Pair.{Pair};
-use crate::class::Class;
-use crate::class::ClassPartialEq;
 use crate::io_kind::IoKind;
+use classes::class::Class;
+use classes::class::ClassPartialEq;
 
 // What a policy is asked of an error: its class, and its io kind where it is an io error.
 #[derive(Clone, Copy)]

@@ -3,7 +3,7 @@ use mathlib.Core.List.{List}
 use mathlib.Core.Bool.{Bool, _||_, or-false}
 use Prim.Native.Nat.{ℕ}
 use Rattle.std.specs.declared.result.Result.the-variants.{Ok}
-use Rattle.vocabulary.specs.Class.{lesser}
+use Rattle.classes.specs.Class.{lesser}
 use Rattle.model.specs.Judge.{anyPair, leastClass, pairsOf}
 use Rattle.model.proofs.Steps.{step, live-since, answered}
 use Rattle.host.specs.declared.judge.Findings.{Findings}

@@ -1,6 +1,6 @@
 use mathlib.Core.Path.{_≡_}
 use mathlib.Core.Bool.{_||_}
-use Rattle.vocabulary.specs.Class.{lesser}
+use Rattle.classes.specs.Class.{lesser}
 use Rattle.model.specs.Judge.{anyPair, leastClass, pairsOf}
 use Rattle.model.specs.Sources.{bound, chainFrom, LiveOrNone}
 use Rattle.model.proofs.Judge.{Decided}

@@ -1,0 +1,2 @@
+pub mod DriveLaws
+pub mod Labels

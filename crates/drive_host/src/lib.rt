@@ -1,0 +1,2 @@
+// The drive's own errors.
+pub mod drive;

@@ -1,6 +1,0 @@
-pub mod DriveLaws
-pub mod EntryLaws
-pub mod Labels
-pub mod LayerHost
-pub mod LayerLaws
-pub mod TableLaws

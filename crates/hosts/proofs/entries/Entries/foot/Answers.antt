@@ -1,7 +1,0 @@
-use borrow.Author.Needs.{needs}
-use Rattle.hosts.proofs.EntryLaws.{foot-passed}
-use Rattle.hosts.proofs.entries.Entries.foot.Needs as need
-
-pub returns-in-None : need.returns-in-None
-returns-in-None c =
-    foot-passed (c .args .self .now .items) (c .args .self .now .below) (c .args .self .now .count) (c .args .error) (search needs) (search needs) (c .in-None .ensures tt)

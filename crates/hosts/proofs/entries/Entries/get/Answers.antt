@@ -1,7 +1,0 @@
-use borrow.Author.Needs.{needs}
-use Rattle.hosts.proofs.EntryLaws.{got}
-use Rattle.hosts.proofs.entries.Entries.get.Needs as need
-
-pub returns : need.returns
-returns c =
-    got (c .args .self .now .items) (c .args .self .now .below) (c .args .self .now .count) (c .args .error) _ (search needs) (search needs) (search needs)

@@ -1,8 +1,0 @@
-use Rattle.std.specs.Of.Vec.{vec-items}
-use Rattle.hosts.proofs.TableLaws.{length-told}
-use Rattle.hosts.proofs.table.TableHostHost.text_len.Needs as need
-
-pub returns : need.returns
-returns c =
-    let told = c .in-Continue-record .ensures tt in
-    length-told (vec-items (c .args .self .now .records)) (vec-items (c .args .self .now .bytes)) (c .args .error) (c .in-Continue-record .field-0) (told .0) (told .1)

@@ -1,0 +1,3 @@
+pub mod EntryLaws
+pub mod LayerHost
+pub mod LayerLaws

@@ -1,0 +1,4 @@
+pub mod Addition
+pub mod Entries
+pub mod EntryText
+pub mod Layer

@@ -1,0 +1,3 @@
+// A host over the caller's records.
+pub mod record;
+pub mod table;
