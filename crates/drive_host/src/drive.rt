@@ -98,7 +98,7 @@ pub impl Host for DriveHost as DriveHostHost {
     }
 
     fn span(&self) -> u32 {
-        48
+        3 * 16
     }
 }
 

@@ -1,6 +1,7 @@
 ghost use mathlib.Core.Path.{_≡_};
 ghost use Rattle.vocabulary.specs.declared.fault.LayerFault.the-variants.{Host};
-ghost use Rattle.vocabulary.specs.Refusal.{hostFaultNumber, layerFaultNumber};
+ghost use Rattle.vocabulary.specs.declared.fault.StoreFault.the-variants.{Host as Handed};
+ghost use Rattle.vocabulary.specs.Refusal.{hostFaultNumber, layerFaultNumber, storeFaultNumber};
 
 // Why a host turns a question down.
 #[derive(Clone, Copy, Debug, PartialEq, Eq)]
@@ -48,7 +49,38 @@ impl LayerFault {
 pub impl From<HostFault> for LayerFault as LayerFaultFromHost {
     ghost converts = { λ f r. r ≡ Host f };
 
-    fn from(fault: HostFault) -> LayerFault {
-        LayerFault::Host(fault)
+    fn from(host_fault: HostFault) -> LayerFault {
+        LayerFault::Host(host_fault)
+    }
+}
+
+// Why a call on a store is turned down.
+#[derive(Clone, Copy, Debug, PartialEq, Eq)]
+pub enum StoreFault {
+    // a report or basket is another store's, its root is not live, or two have the same root
+    NotHeld,
+    // the host turned the question down
+    Host(HostFault),
+    // fewer frames are free than the call needs, which is this number
+    NoFrames(usize),
+}
+
+impl StoreFault {
+    pub fn number(self) -> u8
+        ensures { λ r. ⌜ r ≡ storeFaultNumber self ⌝ }
+    {
+        match self {
+            StoreFault::NotHeld => 3,
+            StoreFault::Host(fault) => fault.number(),
+            StoreFault::NoFrames(_) => 2,
+        }
+    }
+}
+
+pub impl From<HostFault> for StoreFault as StoreFaultFromHost {
+    ghost converts = { λ f r. r ≡ Handed f };
+
+    fn from(refused: HostFault) -> StoreFault {
+        StoreFault::Host(refused)
     }
 }

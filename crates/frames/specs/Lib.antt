@@ -1,0 +1,6 @@
+pub mod Layout
+pub mod Reports
+pub mod Calls
+pub mod Invariant
+pub mod Placed
+pub mod Of

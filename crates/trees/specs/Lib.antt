@@ -1,0 +1,5 @@
+pub mod Trees
+pub mod Numbered
+pub mod Counting
+pub mod Laws
+pub mod Listings
