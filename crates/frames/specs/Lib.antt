@@ -1,6 +1,1 @@
-pub mod Layout
-pub mod Reports
-pub mod Calls
-pub mod Invariant
-pub mod Placed
 pub mod Of

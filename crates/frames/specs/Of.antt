@@ -4,9 +4,9 @@ use Prim.Native.Nat.{ℕ}
 use Rattle.std.specs.declared.option.Option.{Option}
 use Rattle.trees.specs.Trees.{Tree, Listing}
 use Rattle.trees.specs.Counting.{unused}
-use Rattle.frames.specs.declared.frame.Frame.{Frame}
+use Rattle.layout.specs.declared.frame.Frame.{Frame}
 use Rattle.frames.specs.declared.store.Frames.{Frames}
-use Rattle.frames.specs.Reports.{reports, rows}
+use Rattle.layout.specs.Reports.{reports, rows}
 
 abbrev pub framesOf : Frames → List Frame
 framesOf s = s .frames

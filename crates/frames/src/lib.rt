@@ -1,4 +1,3 @@
 // The store by plain numbers: 1,024 frames that hold reports, alone or in rows.
-pub mod frame;
 mod links;
 pub mod store;

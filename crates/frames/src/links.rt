@@ -1,12 +1,12 @@
 ghost use mathlib.Core.Path.{_≡_};
-ghost use Rattle.frames.specs.Layout.{Within, changed, linked, cast, either, isReport, isRow, lastRoot, rowSize, rowRole};
-use crate::frame::Frame;
-use crate::frame::Role;
+ghost use Rattle.layout.specs.Layout.{Within, changed, withNext, withRole, either, isReport, isRow, lastRoot, rowSize, rowRole};
+use layout::frame::Frame;
+use layout::frame::Role;
 
 // Writes the next of the frame `at`, if there is one.
 pub fn link(frames: &mut [Frame; 1024], at: Option<u16>, next: Option<u16>)
     requires { ⌜ Within at ⌝ }
-    ensures { λ _. ⌜ now (frames .exit) ≡ changed (now (frames .entry)) at (linked next) ⌝ }
+    ensures { λ _. ⌜ now (frames .exit) ≡ changed (now (frames .entry)) at (withNext next) ⌝ }
 {
     if let Some(i) = at {
         frames[i as usize].next = next;
@@ -16,7 +16,7 @@ pub fn link(frames: &mut [Frame; 1024], at: Option<u16>, next: Option<u16>)
 // Writes the role of the frame `at`, if there is one.
 pub fn assign(frames: &mut [Frame; 1024], at: Option<u16>, role: Role)
     requires { ⌜ Within at ⌝ }
-    ensures { λ _. ⌜ now (frames .exit) ≡ changed (now (frames .entry)) at (cast role) ⌝ }
+    ensures { λ _. ⌜ now (frames .exit) ≡ changed (now (frames .entry)) at (withRole role) ⌝ }
 {
     if let Some(i) = at {
         frames[i as usize].role = role;

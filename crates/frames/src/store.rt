@@ -6,14 +6,13 @@ ghost use lib.ListN.{getD};
 ghost use Rattle.std.specs.shelf.Maps.{update};
 ghost use Rattle.std.specs.Options.{isSome};
 ghost use Rattle.std.specs.declared.option.Option.the-variants.{Some, None};
+ghost use Rattle.trees.specs.Roots.{RootsDiffer};
 ghost use Rattle.trees.specs.Trees.{firstRoot};
-ghost use Rattle.frames.specs.Invariant.{WellFormed};
-ghost use Rattle.frames.specs.Layout.{Sound, blank};
-ghost use Rattle.frames.specs.Reports.{reports, rows, Means};
+ghost use Rattle.layout.specs.Invariant.{WellFormed};
+ghost use Rattle.layout.specs.Layout.{Sound, blank};
+ghost use Rattle.layout.specs.Reports.{reports, rows, Means};
 ghost use Rattle.trees.specs.Counting.{unused, inReport};
-ghost use Rattle.frames.specs.Calls.{alone, under, joined, firstOf, restOf, opened, Drained, BeginAnswer};
-use crate::frame::Frame;
-use crate::frame::Role;
+ghost use Rattle.layout.specs.Calls.{alone, under, joined, firstOf, restOf, opened, Drained, BeginAnswer};
 use crate::links::assign;
 use crate::links::choose;
 use crate::links::is_report;
@@ -22,6 +21,8 @@ use crate::links::last_root;
 use crate::links::link;
 use crate::links::row_role;
 use crate::links::row_size;
+use layout::frame::Frame;
+use layout::frame::Role;
 use vocabulary::frame_error::FrameError;
 
 // A free frame with no other after it.
@@ -276,8 +277,9 @@ impl Frames {
         self.frames[n as usize].next
     }
 
-    // Does nothing: its contract says what holds of the links of every store.
+    // Does nothing: its contract says what holds of the links of every store, and of the roots of its reports.
     pub fn well_formed(&self)
-        ensures { λ _. ⌜ WellFormed (now (self .entry) .frames) (now (self .entry) .free) ⌝ }
+        ensures links { λ _. ⌜ WellFormed (now (self .entry) .frames) (now (self .entry) .free) ⌝ }
+        ensures roots { λ _. ⌜ RootsDiffer (reports (now (self .entry) .frames)) (rows (now (self .entry) .frames)) ⌝ }
     {}
 }

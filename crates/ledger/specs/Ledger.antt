@@ -11,8 +11,8 @@ use Rattle.std.specs.declared.option.Option.{Option}
 use Rattle.std.specs.declared.option.Option.the-variants.{Some, None}
 use Rattle.vocabulary.specs.declared.frame_error.FrameError.{FrameError}
 use Rattle.trees.specs.Counting.{unused}
-use Rattle.trees.specs.Listings.{alone, bare, childrenOf, listOf, opened, under}
-use Rattle.trees.specs.Trees.{Tree, Listing, among, firstRoot, forest, leaf, only}
+use Rattle.trees.specs.Listings.{alone, bare, childrenOf, opened, under}
+use Rattle.trees.specs.Trees.{Tree, Listing, among, firstRoot, forest, leaf, listOf, only}
 
 pub record Ledger : Type 0 where
   pub reports : ℕ → Option Tree

@@ -14,14 +14,14 @@ use Rattle.std.specs.shelf.Maps.{update}
 use Rattle.std.specs.declared.option.Option.{Option}
 use Rattle.std.specs.declared.option.Option.the-variants.{Some, None}
 use lib.ListN.{getD}
-use Rattle.frames.specs.Layout.{blank}
-use Rattle.frames.specs.Reports.{Means, reports, rows, readRow, treeAt, ifRow}
-use Rattle.frames.specs.declared.frame.Frame.{Frame}
-use Rattle.frames.specs.declared.frame.Role.{Role}
-use Rattle.frames.specs.declared.frame.Role.the-variants.{Linked, Report, Row}
+use Rattle.layout.specs.Layout.{blank}
+use Rattle.layout.specs.Reports.{Means, reports, rows, readRow, treeAt, ifRow}
+use Rattle.layout.specs.declared.frame.Frame.{Frame}
+use Rattle.layout.specs.declared.frame.Role.{Role}
+use Rattle.layout.specs.declared.frame.Role.the-variants.{Linked, Report, Row}
 use Rattle.ledger.specs.Ledger.{Ledger, chainedAll, collected, longer, rowOf, taken, without}
-use Rattle.trees.specs.Listings.{alone, firstOf, joined, listOf, opened, restOf, under}
-use Rattle.trees.specs.Trees.{Forest, empty, tree, Tree, _then_, Listing, firstRoot}
+use Rattle.trees.specs.Listings.{alone, firstOf, joined, opened, restOf, under}
+use Rattle.trees.specs.Trees.{Forest, empty, tree, Tree, _then_, Listing, firstRoot, listOf}
 
 pub then-empty : (f : Forest) → f then empty ≡ f
 then-empty empty = refl

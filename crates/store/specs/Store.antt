@@ -2,7 +2,7 @@
 use mathlib.Core.Path.{_≡_}
 use Prim.Native.Nat.{ℕ}
 use Rattle.frames.specs.Of.{framesOf, reportsOf, rowsOf}
-use Rattle.frames.specs.Reports.{Means}
+use Rattle.layout.specs.Reports.{Means}
 use Rattle.ledger.specs.Ledger.{Ledger}
 use Rattle.store.specs.declared.store.Store.{Store}
 

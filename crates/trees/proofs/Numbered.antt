@@ -1,16 +1,17 @@
 -- Laws of numbered forests.
-use mathlib.Core.Path.{_≡_, refl, ap, _∙_}
+use mathlib.Core.Path.{_≡_, refl, sym, ap, _∙_}
 use mathlib.Core.List.{_∷_, _++_}
-use mathlib.Core.Logic.{_⊎_, inl, inr}
-use mathlib.Core.Bool.{false}
+use mathlib.Core.Logic.{_⊎_, inl, inr, ⊎-elim}
+use mathlib.Core.Bool.{true, false}
 use Prim.Native.Nat.{ℕ, zero, suc, _+_, _≤_}
 use native.Mathlib.Omega.{arith}
 use lib.Dec.{eqb}
-use Rattle.std.proofs.shelf.Tests.{eq-eqb, ne-eqb, cond-true, cond-false}
+use Rattle.std.proofs.shelf.Tests.{eq-eqb, ne-eqb, eqb-true, cond-true, cond-false, cases-bool, false≢true}
 use Rattle.vocabulary.specs.declared.frame_error.FrameError.{FrameError}
 use Rattle.trees.specs.Trees.{Forest, tree, forest, Listing, _then_, among}
 use Rattle.trees.specs.Numbered.{Numbered, none, node, _beside_, shape, listing, treeOf, size, one, tally, lastFrom}
 use Rattle.trees.specs.Laws.{Counted}
+use Rattle.trees.specs.Roots.{Differ}
 
 pub one-same : (n i : ℕ) → n ≡ i → one n i ≡ 1
 unfolding one
@@ -63,3 +64,16 @@ last-beside i (node a f q l r) j e p k s = last-beside a r j e p k s
 pub counted : Counted
 counted none = refl
 counted (node i e p k r) = let a = counted k in let b = counted r in omega arith
+
+pub among-counts : (n : ℕ) (r : Numbered) → among n (listing r) ≡ true → 1 ≤ tally n r
+among-counts n none a = absurd (false≢true a)
+among-counts n (node i e p k r) a =
+    ⊎-elim
+    (λ q. let o = one-same n i (eqb-true n i q) in omega arith)
+    (λ q. let b = among-counts n r (sym (cond-false (eqb n i) true (among n (listing r)) q) ∙ a) in omega arith)
+    (cases-bool (eqb n i))
+
+pub listing-differs : (r : Numbered) → ((n : ℕ) → tally n r ≤ 1) → Differ (listing r)
+listing-differs none u = tt
+listing-differs (node i e p k r) u =
+    (among-absent i r (let a = u i in let b = one-same i i refl in omega arith), listing-differs r (λ n. let a = u n in omega arith))

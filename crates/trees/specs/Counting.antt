@@ -12,11 +12,15 @@ abbrev pub inRow : Option Listing → ℕ
 inRow None = 0
 inRow (Some x) = frames (forest x)
 
--- the frames of the reports and rows that are known by a number below `n`
-unfoldable pub usedBelow : ℕ → (ℕ → Option Tree) → (ℕ → Option Listing) → ℕ
-usedBelow zero g h = 0
-usedBelow (suc n) g h = usedBelow n g h + (inReport (g n) + inRow (h n))
+-- the sum over the numbers below `n`
+unfoldable pub total : ℕ → (ℕ → ℕ) → ℕ
+total zero f = 0
+total (suc n) f = total n f + f n
 
--- the free frames among 1,024
+-- the frames of all reports and rows
+abbrev pub used : (ℕ → Option Tree) → (ℕ → Option Listing) → ℕ
+used g h = total 1024 (λ j. inReport (g j) + inRow (h j))
+
+-- the free frames
 abbrev pub unused : (ℕ → Option Tree) → (ℕ → Option Listing) → ℕ
-unused g h = 1024 - usedBelow 1024 g h
+unused g h = 1024 - used g h

@@ -48,7 +48,3 @@ bare (Some t) = Some (leaf (t .error) (t .place))
 abbrev pub childrenOf : Option Tree → Forest
 childrenOf None = empty
 childrenOf (Some t) = t .children
-
-abbrev pub listOf : Option Listing → Listing
-listOf None = []
-listOf (Some x) = x

@@ -54,3 +54,8 @@ among n (x ∷ xs) = cond (eqb n (x .0)) true (among n xs)
 abbrev pub firstRoot : Listing → Option ℕ
 firstRoot [] = None
 firstRoot (x ∷ xs) = Some (x .0)
+
+-- the reports of a row, if there is one
+abbrev pub listOf : Option Listing → Listing
+listOf None = []
+listOf (Some x) = x

@@ -1,6 +1,6 @@
 use borrow.Author.Needs.{needs}
-use Rattle.frames.proofs.Free.{begun-from}
-use Rattle.frames.proofs.Calls.{full, free-below, within-free, some-free, begin-sound, begin-answer}
+use Rattle.layout.proofs.Free.{begun-from}
+use Rattle.layout.proofs.Calls.{full, free-below, within-free, some-free, begin-sound, begin-answer}
 use Rattle.frames.proofs.store.Frames.begin.Needs as need
 
 pub returns-in-rest : need.returns-in-rest

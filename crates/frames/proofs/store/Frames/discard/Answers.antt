@@ -1,4 +1,4 @@
-use Rattle.frames.proofs.Calls.{discard-both}
+use Rattle.layout.proofs.Calls.{discard-both}
 use Rattle.frames.proofs.store.Frames.discard.Needs as need
 
 pub returns : need.returns

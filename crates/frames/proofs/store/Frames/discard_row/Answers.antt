@@ -1,6 +1,6 @@
 use borrow.Author.Needs.{needs}
-use Rattle.frames.proofs.Free.{freed-from}
-use Rattle.frames.proofs.Calls.{head-below, within-last-root, row-fits, free-sound, free-means}
+use Rattle.layout.proofs.Free.{freed-from}
+use Rattle.layout.proofs.Calls.{head-below, within-last-root, row-fits, free-sound, free-means}
 use Rattle.frames.proofs.store.Frames.discard_row.Needs as need
 
 pub index-self-head : need.index-self-head

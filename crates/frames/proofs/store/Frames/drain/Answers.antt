@@ -1,5 +1,5 @@
-use Rattle.frames.proofs.Split.{drained-from}
-use Rattle.frames.proofs.Calls.{live-below, within-first, some-size, drain-sound, drain-answer}
+use Rattle.layout.proofs.Split.{drained-from}
+use Rattle.layout.proofs.Calls.{live-below, within-first, some-size, drain-sound, drain-answer}
 use Rattle.frames.proofs.store.Frames.drain.Needs as need
 
 pub index-self-x : need.index-self-x

@@ -1,4 +1,4 @@
-use Rattle.frames.proofs.Calls.{free-count}
+use Rattle.layout.proofs.Calls.{free-count}
 use Rattle.frames.proofs.store.Frames.free.Needs as need
 
 pub returns : need.returns

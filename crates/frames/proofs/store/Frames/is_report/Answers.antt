@@ -1,7 +1,7 @@
 use mathlib.Core.Path.{_∙_, sym, ap}
-use Rattle.frames.specs.Layout.{isReport}
-use Rattle.frames.proofs.Told.{report-says}
-use Rattle.frames.proofs.Calls.{past-role}
+use Rattle.layout.specs.Layout.{isReport}
+use Rattle.layout.proofs.Told.{report-says}
+use Rattle.layout.proofs.Calls.{past-role}
 use Rattle.frames.proofs.store.Frames.is_report.Needs as need
 
 pub returns-then-n-ge1024 : need.returns-then-n-ge1024

@@ -1,7 +1,7 @@
 use mathlib.Core.Path.{_∙_, sym, ap}
-use Rattle.frames.specs.Layout.{isRow}
-use Rattle.frames.proofs.Told.{row-says}
-use Rattle.frames.proofs.Calls.{past-role}
+use Rattle.layout.specs.Layout.{isRow}
+use Rattle.layout.proofs.Told.{row-says}
+use Rattle.layout.proofs.Calls.{past-role}
 use Rattle.frames.proofs.store.Frames.is_row.Needs as need
 
 pub returns-then-n-ge1024 : need.returns-then-n-ge1024

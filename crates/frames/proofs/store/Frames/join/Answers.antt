@@ -1,4 +1,4 @@
-use Rattle.frames.proofs.Calls.{join-both}
+use Rattle.layout.proofs.Calls.{join-both}
 use Rattle.frames.proofs.store.Frames.join.Needs as need
 
 pub returns : need.returns

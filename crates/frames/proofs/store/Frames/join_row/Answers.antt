@@ -1,6 +1,6 @@
 use borrow.Author.Needs.{needs}
-use Rattle.frames.proofs.Joins.{joined-from}
-use Rattle.frames.proofs.Calls.{live-below, row-below, within-kids, both-fit, join-sound, join-means}
+use Rattle.layout.proofs.Joins.{joined-from}
+use Rattle.layout.proofs.Calls.{live-below, row-below, within-kids, both-fit, join-sound, join-means}
 use Rattle.frames.proofs.store.Frames.join_row.Needs as need
 
 pub index-self-x : need.index-self-x

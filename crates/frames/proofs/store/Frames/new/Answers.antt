@@ -1,6 +1,6 @@
 use native.Mathlib.Omega.{arith}
 use borrow.Author.Needs.{needs}
-use Rattle.frames.proofs.Empty.{below-none, below-more, empty-sound, empty-means}
+use Rattle.layout.proofs.Empty.{below-none, below-more, empty-sound, empty-means}
 use Rattle.frames.proofs.store.Frames.new.Needs as need
 
 pub loop-i-holds : need.loop-i-holds

@@ -1,4 +1,4 @@
-use Rattle.frames.proofs.Empty.{Linked-below}
+use Rattle.layout.proofs.Empty.{Linked-below}
 use Rattle.frames.proofs.store.Frames.new.Given as given
 
 abbrev pub Inv-loop-i : given.InvT-loop-i

@@ -1,6 +1,6 @@
 use borrow.Author.Needs.{needs}
-use Rattle.frames.proofs.Split.{popped-from}
-use Rattle.frames.proofs.Calls.{head-below, within-next, row-larger, pop-sound, pop-means, pop-answer}
+use Rattle.layout.proofs.Split.{popped-from}
+use Rattle.layout.proofs.Calls.{head-below, within-next, row-larger, pop-sound, pop-means, pop-answer}
 use Rattle.frames.proofs.store.Frames.pop.Needs as need
 
 pub index-self-head : need.index-self-head

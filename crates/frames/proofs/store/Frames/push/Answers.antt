@@ -1,6 +1,6 @@
 use borrow.Author.Needs.{needs}
-use Rattle.frames.proofs.Joins.{pushed-from}
-use Rattle.frames.proofs.Calls.{live-below, row-below, within-row, both-fit, push-sound, push-means}
+use Rattle.layout.proofs.Joins.{pushed-from}
+use Rattle.layout.proofs.Calls.{live-below, row-below, within-row, both-fit, push-sound, push-means}
 use Rattle.frames.proofs.store.Frames.push.Needs as need
 
 pub index-self-x : need.index-self-x

@@ -1,4 +1,4 @@
-use Rattle.frames.proofs.Calls.{live-below, row-of-sound, row-of-means}
+use Rattle.layout.proofs.Calls.{live-below, row-of-sound, row-of-means}
 use Rattle.frames.proofs.store.Frames.row_of.Needs as need
 
 pub index-self-x : need.index-self-x

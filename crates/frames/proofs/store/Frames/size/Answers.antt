@@ -1,4 +1,4 @@
-use Rattle.frames.proofs.Calls.{live-below, size-is}
+use Rattle.layout.proofs.Calls.{live-below, size-is}
 use Rattle.frames.proofs.store.Frames.size.Needs as need
 
 pub index-self-x : need.index-self-x

@@ -10,26 +10,25 @@ use Rattle.std.specs.declared.option.Option.{Option}
 use Rattle.std.specs.declared.option.Option.the-variants.{Some, None}
 use Rattle.std.proofs.shelf.Lists.{length-set, getD-set-same}
 use Rattle.vocabulary.specs.declared.frame_error.FrameError.{FrameError}
-use Rattle.trees.specs.Trees.{Listing, among}
+use Rattle.trees.specs.Trees.{Listing, among, listOf}
 use Rattle.trees.specs.Numbered.{Numbered, none, node, _beside_, size, headOf, lastFrom, lastOf}
 use Rattle.trees.proofs.Numbered.{one-same, tally-beside, size-beside, last-in}
-use Rattle.frames.specs.declared.frame.Role.{Role}
-use Rattle.frames.specs.declared.frame.Role.the-variants.{Linked, Report, Row}
-use Rattle.frames.specs.declared.frame.Frame.{Frame}
-use Rattle.frames.specs.Layout.{blank, frameOf, Held, Block, report, row, tallies, Laid, rowAt, cast, linked, changed, Within, either, lastRoot, rowSize}
-use Rattle.frames.specs.Reports.{reports, rows, Means}
-use Rattle.frames.specs.Calls.{listOf}
-use Rattle.frames.proofs.Held.{held-set, stand-set, stand-changed, held-cast, length-changed, join, joins, off-last, last-below, within-last}
-use Rattle.frames.proofs.Told.{told, absent}
-use Rattle.frames.proofs.Means.{gone, added, first-below, first-once}
-use Rattle.frames.specs.Calls.{Begun}
-use Rattle.frames.proofs.Split.{not-among}
-use Rattle.frames.proofs.Count.{count-is}
+use Rattle.layout.specs.declared.frame.Role.{Role}
+use Rattle.layout.specs.declared.frame.Role.the-variants.{Linked, Report, Row}
+use Rattle.layout.specs.declared.frame.Frame.{Frame}
+use Rattle.layout.specs.Layout.{blank, frameOf, Held, Block, report, row, tallies, Laid, rowAt, withRole, withNext, changed, Within, either, lastRoot, rowSize}
+use Rattle.layout.specs.Reports.{reports, rows, Means}
+use Rattle.layout.proofs.Held.{held-set, stand-set, stand-changed, held-role, length-changed, join, joins, off-last, last-below, within-last}
+use Rattle.layout.proofs.Told.{told, absent}
+use Rattle.layout.proofs.Means.{gone, added, first-below, first-once}
+use Rattle.layout.specs.Calls.{Begun}
+use Rattle.layout.proofs.Split.{not-among}
+use Rattle.layout.proofs.Count.{count-is}
 
 abbrev pub freedFrames : List Frame → ℕ → Option ℕ → List Frame
-freedFrames fs x head = changed (set fs x (cast Linked (getD fs x blank))) (lastRoot (getD fs x blank .role)) (linked head)
+freedFrames fs x head = changed (set fs x (withRole Linked (getD fs x blank))) (lastRoot (getD fs x blank .role)) (withNext head)
 
-pub freed-from : (fs gs ms : List Frame) (x : ℕ) (last head : Option ℕ) → gs ≡ set fs x (cast Linked (getD fs x blank)) → ms ≡ changed gs last (linked head)
+pub freed-from : (fs gs ms : List Frame) (x : ℕ) (last head : Option ℕ) → gs ≡ set fs x (withRole Linked (getD fs x blank)) → ms ≡ changed gs last (withNext head)
     → last ≡ lastRoot (getD fs x blank .role) → ms ≡ freedFrames fs x head
 freed-from fs gs ms x last head a b c = rw (b, a, c)
 
@@ -38,9 +37,9 @@ module _ {fs : List Frame} {head : Option ℕ} {count x : ℕ} {e : FrameError} 
   role-is : getD fs x blank .role ≡ Row (lastFrom x r) (size (node x e p k r))
   role-is = ap (λ (f : Frame). f .role) (l .stand .0 .1)
 
-  freed-layout : Laid (changed (set fs x (cast Linked (getD fs x blank))) (Some (lastFrom x r)) (linked (headOf free))) (Some x) (count + size (node x e p k r)) rest (node x e p k (r beside free))
+  freed-layout : Laid (changed (set fs x (withRole Linked (getD fs x blank))) (Some (lastFrom x r)) (withNext (headOf free))) (Some x) (count + size (node x e p k r)) rest (node x e p k (r beside free))
   freed-layout =
-      let fs1 = set fs x (cast Linked (getD fs x blank)) in
+      let fs1 = set fs x (withRole Linked (getD fs x blank)) in
       let z = lastFrom x r in
       let o = l .once in
       let x0 = first-below l x refl in
@@ -48,7 +47,7 @@ module _ {fs : List Frame} {head : Option ℕ} {count x : ℕ} {e : FrameError} 
       let sx = one-same x x refl in
       let lng = l .long in
       let long1 : length fs1 ≡ 1024 = length-set fs x _ ∙ l .long in
-      let row1 : Held fs1 Linked (node x e p k r) = held-cast fs _ Linked x e p k r (l .stand .0) (omega arith) in
+      let row1 : Held fs1 Linked (node x e p k r) = held-role fs _ Linked x e p k r (l .stand .0) (omega arith) in
       let free1 : Held fs1 Linked free = held-set fs Linked free x _ (l .spare) (omega arith) in
       let oz = o z (let a = last-below fs1 Linked x e p k r row1 in omega arith) in
       let lz = last-in x e p k r in
@@ -62,8 +61,8 @@ module _ {fs : List Frame} {head : Option ℕ} {count x : ℕ} {e : FrameError} 
         long = length-set fs1 z _ ∙ long1;
       }
 
-  freed-is : changed (set fs x (cast Linked (getD fs x blank))) (Some (lastFrom x r)) (linked (headOf free)) ≡ freedFrames fs x head
-  freed-is = sym (ap₂ (λ (s : Role) (h : Option ℕ). changed (set fs x (cast Linked (getD fs x blank))) (lastRoot s) (linked h)) role-is (l .begins))
+  freed-is : changed (set fs x (withRole Linked (getD fs x blank))) (Some (lastFrom x r)) (withNext (headOf free)) ≡ freedFrames fs x head
+  freed-is = sym (ap₂ (λ (s : Role) (h : Option ℕ). changed (set fs x (withRole Linked (getD fs x blank))) (lastRoot s) (withNext h)) role-is (l .begins))
 
   pub freed-laid : Laid (freedFrames fs x head) (Some x) (count + rowSize (getD fs x blank .role)) rest (node x e p k (r beside free))
   freed-laid = subst₂ (λ (gs : List Frame) (n : ℕ). Laid gs (Some x) n rest (node x e p k (r beside free))) freed-is (ap (λ (s : Role). count + rowSize s) (sym role-is)) freed-layout
@@ -96,12 +95,12 @@ none-free none l h = sym (l .left)
 none-free (node j e p k r) l h = absurd (let b = l .begins in let w : _≡_ {A = ℕ} 0 1 = cc in omega arith)
 
 abbrev pub begunBy : List Frame → ℕ → FrameError → ℕ → Frame → List Frame
-begunBy fs i e p f = set (changed fs (f .last) (linked (f .next))) i (frameOf Report e p none none)
+begunBy fs i e p f = set (changed fs (f .last) (withNext (f .next))) i (frameOf Report e p none none)
 
 abbrev pub begunFrames : List Frame → ℕ → FrameError → ℕ → List Frame
 begunFrames fs i e p = begunBy fs i e p (getD fs i blank)
 
-pub begun-from : (fs gs : List Frame) (i : ℕ) (e : FrameError) (p : ℕ) → gs ≡ changed fs (getD fs i blank .last) (linked (getD fs i blank .next))
+pub begun-from : (fs gs : List Frame) (i : ℕ) (e : FrameError) (p : ℕ) → gs ≡ changed fs (getD fs i blank .last) (withNext (getD fs i blank .next))
     → set gs i (frameOf Report e p none none) ≡ begunFrames fs i e p
 begun-from fs gs i e p a = rw a
 
@@ -115,7 +114,7 @@ module _ {fs : List Frame} {head : Option ℕ} {count i : ℕ} {live : List Bloc
 
   begun-layout : Laid (begunBy fs i e p (frameOf Linked f q k r)) (headOf (k beside r)) (count - 1) (report i e p none ∷ live) (k beside r)
   begun-layout =
-      let fs1 = changed fs (lastOf k) (linked (headOf r)) in
+      let fs1 = changed fs (lastOf k) (withNext (headOf r)) in
       let o = l .once in
       let oi = o i free-below in
       let si = one-same i i refl in

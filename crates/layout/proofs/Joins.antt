@@ -13,19 +13,19 @@ use Rattle.vocabulary.specs.declared.frame_error.FrameError.{FrameError}
 use Rattle.trees.specs.Trees.{Forest, _then_, Tree, Listing}
 use Rattle.trees.specs.Numbered.{Numbered, none, node, _beside_, size, tally, shape, treeOf, listing, headOf, lastFrom, lastOf}
 use Rattle.trees.proofs.Numbered.{one-same, tally-beside, size-beside, shape-beside, forest-listing, listing-beside, last-beside, last-in}
-use Rattle.frames.specs.declared.frame.Role.{Role}
-use Rattle.frames.specs.declared.frame.Role.the-variants.{Linked, Report, Row}
-use Rattle.frames.specs.declared.frame.Frame.{Frame}
-use Rattle.frames.specs.Layout.{blank, frameOf, Held, Block, report, row, tallies, Laid, reportAt, rowAt, cast, linked, changed, either, lastRoot, rowSize, Within}
-use Rattle.frames.specs.Reports.{reports, rows, Means}
-use Rattle.frames.specs.Calls.{under, alone, joined}
-use Rattle.frames.proofs.Held.{held-set, held-changed, stand-set, stand-changed, held-cast, length-changed, join, joins, off-last, last-below, within-last}
-use Rattle.frames.proofs.Told.{told, absent}
-use Rattle.frames.proofs.Means.{covered, gone, found, first-below}
+use Rattle.layout.specs.declared.frame.Role.{Role}
+use Rattle.layout.specs.declared.frame.Role.the-variants.{Linked, Report, Row}
+use Rattle.layout.specs.declared.frame.Frame.{Frame}
+use Rattle.layout.specs.Layout.{blank, frameOf, Held, Block, report, row, tallies, Laid, reportAt, rowAt, withRole, withNext, changed, either, lastRoot, rowSize, Within}
+use Rattle.layout.specs.Reports.{reports, rows, Means}
+use Rattle.layout.specs.Calls.{under, alone, joined}
+use Rattle.layout.proofs.Held.{held-set, held-changed, stand-set, stand-changed, held-role, length-changed, join, joins, off-last, last-below, within-last}
+use Rattle.layout.proofs.Told.{told, absent}
+use Rattle.layout.proofs.Means.{covered, gone, found, first-below}
 
 -- the frames after the row at `y` was put under `x`, whose root frame is now `top`
 abbrev pub joinedAt : List Frame → ℕ → ℕ → Option ℕ → Frame → List Frame
-joinedAt fs x y last top = set (changed (set fs y (cast Linked (getD fs y blank))) last (linked (Some y))) x top
+joinedAt fs x y last top = set (changed (set fs y (withRole Linked (getD fs y blank))) last (withNext (Some y))) x top
 
 -- the root frame with the row at `y`, which has this role, as its last children
 abbrev pub widened : Frame → Role → ℕ → Frame
@@ -33,7 +33,7 @@ widened top s y = record { error = top .error; place = top .place; first = eithe
 
 -- the frames after the report at `x` was put at the end of the row at `y`, whose last root was `last`
 abbrev pub pushedAt : List Frame → ℕ → ℕ → Option ℕ → Role → List Frame
-pushedAt fs x y last s = changed (changed (set fs x (cast Linked (getD fs x blank))) last (linked (Some x))) (Some y) (cast s)
+pushedAt fs x y last s = changed (changed (set fs x (withRole Linked (getD fs x blank))) last (withNext (Some x))) (Some y) (withRole s)
 
 -- the same, from the frames alone
 abbrev pub joinedFrames : List Frame → ℕ → ℕ → List Frame
@@ -44,15 +44,15 @@ pushedFrames fs x y = pushedAt fs x y (lastRoot (getD fs y blank .role)) (Row x 
 
 -- the writes, one after another
 pub joined-from : (fs gs ms : List Frame) (x y : ℕ) (first last : Option ℕ) (n : ℕ)
-    → gs ≡ set fs y (cast Linked (getD fs y blank)) → ms ≡ changed gs (getD fs x blank .last) (linked (Some y))
+    → gs ≡ set fs y (withRole Linked (getD fs y blank)) → ms ≡ changed gs (getD fs x blank .last) (withNext (Some y))
     → first ≡ either (getD fs x blank .first) (Some y) → last ≡ lastRoot (getD fs y blank .role) → n ≡ rowSize (getD fs y blank .role)
     → set ms x (record { error = getD fs x blank .error; place = getD fs x blank .place; first = first; last = last; next = getD fs x blank .next; size = getD fs x blank .size + n; role = getD fs x blank .role })
     ≡ joinedFrames fs x y
 joined-from fs gs ms x y first last n a b c d e = rw (b, a, c, d, e)
 
 pub pushed-from : (fs gs ms os : List Frame) (x y : ℕ) (last : Option ℕ) (n : ℕ)
-    → gs ≡ set fs x (cast Linked (getD fs x blank)) → ms ≡ changed gs last (linked (Some x))
-    → os ≡ set ms y (cast (Row x (n + getD fs x blank .size)) (getD ms y blank)) → last ≡ lastRoot (getD fs y blank .role) → n ≡ rowSize (getD fs y blank .role)
+    → gs ≡ set fs x (withRole Linked (getD fs x blank)) → ms ≡ changed gs last (withNext (Some x))
+    → os ≡ set ms y (withRole (Row x (n + getD fs x blank .size)) (getD ms y blank)) → last ≡ lastRoot (getD fs y blank .role) → n ≡ rowSize (getD fs y blank .role)
     → os ≡ pushedFrames fs x y
 pushed-from fs gs ms os x y last n a b c d e = rw (c, b, a, d, e)
 
@@ -88,8 +88,8 @@ module _ {fs : List Frame} {head : Option ℕ} {count x y : ℕ} {e : FrameError
 
   joined-layout : Laid (joinedAt fs x y (lastOf k) (frameOf Report e p (k beside node y f q m r) none)) head count (report x e p (k beside node y f q m r) ∷ rest) free
   joined-layout =
-      let fs1 = set fs y (cast Linked (getD fs y blank)) in
-      let fs2 = changed fs1 (lastOf k) (linked (Some y)) in
+      let fs1 = set fs y (withRole Linked (getD fs y blank)) in
+      let fs2 = changed fs1 (lastOf k) (withNext (Some y)) in
       let o = l .once in
       let ox = o x x-below in
       let oy = o y y-below in
@@ -99,7 +99,7 @@ module _ {fs : List Frame} {head : Option ℕ} {count x y : ℕ} {e : FrameError
       let long2 : length fs2 ≡ 1024 = length-changed fs1 (lastOf k) _ ∙ long1 in
       let x2 : x < length fs2 = (let a = x-below in omega arith) in
       let kids1 : Held fs1 Linked k = held-set fs Linked k y _ (l .stand .0 .2) (omega arith) in
-      let moved1 : Held fs1 Linked (node y f q m r) = held-cast fs _ Linked y f q m r (l .stand .1 .0) (omega arith) in
+      let moved1 : Held fs1 Linked (node y f q m r) = held-role fs _ Linked y f q m r (l .stand .1 .0) (omega arith) in
       let kids2 : Held fs2 Linked (k beside node y f q m r) = joins fs1 k (node y f q m r) kids1 moved1 (λ n lt. let a = o n (omega arith) in omega arith) in
       let tb = tally-beside x k (node y f q m r) in
       record {
@@ -154,9 +154,9 @@ module _ {fs : List Frame} {head : Option ℕ} {count x y : ℕ} {e : FrameError
   pushed-layout : (n : ℕ) → n ≡ size (node y f q m r) + (size k + 1)
       → Laid (pushedAt fs x y (Some (lastFrom y r)) (Row x n)) head count (row y f q m (r beside node x e p k none) ∷ rest) free
   pushed-layout n c =
-      let fs1 = set fs x (cast Linked (getD fs x blank)) in
+      let fs1 = set fs x (withRole Linked (getD fs x blank)) in
       let z = lastFrom y r in
-      let fs2 = set fs1 z (linked (Some x) (getD fs1 z blank)) in
+      let fs2 = set fs1 z (withNext (Some x) (getD fs1 z blank)) in
       let o = l .once in
       let ox = o x x-below in
       let oy = o y y-below in
@@ -165,7 +165,7 @@ module _ {fs : List Frame} {head : Option ℕ} {count x y : ℕ} {e : FrameError
       let long1 : length fs1 ≡ 1024 = simp length-set (l .long) in
       let long2 : length fs2 ≡ 1024 = length-set fs1 z _ ∙ long1 in
       let row1 : Held fs1 (Row z (size (node y f q m r))) (node y f q m r) = held-set fs _ (node y f q m r) x _ (l .stand .1 .0) (omega arith) in
-      let moved1 : Held fs1 Linked (node x e p k none) = held-cast fs Report Linked x e p k none (l .stand .0) (omega arith) in
+      let moved1 : Held fs1 Linked (node x e p k none) = held-role fs Report Linked x e p k none (l .stand .0) (omega arith) in
       let row2 : Held fs2 (Row z (size (node y f q m r))) (node y f q m (r beside node x e p k none)) = join fs1 _ y f q m r (node x e p k none) row1 moved1 (λ i lt. let a = o i (omega arith) in omega arith) in
       let oz = o z (let a = last-below fs1 _ y f q m r row1 in omega arith) in
       let lz = last-in y f q m r in
@@ -174,8 +174,8 @@ module _ {fs : List Frame} {head : Option ℕ} {count x y : ℕ} {e : FrameError
       ap₂ Row (sym (last-beside y r x e p k none)) (let a = size-beside r (node x e p k none) in omega arith) in
       record {
         stand = (
-          subst (λ (s : Role). Held (set fs2 y (cast (Row x n) (getD fs2 y blank))) s (node y f q m (r beside node x e p k none))) role
-              (held-cast fs2 _ (Row x n) y f q m (r beside node x e p k none) row2 (omega arith)),
+          subst (λ (s : Role). Held (set fs2 y (withRole (Row x n) (getD fs2 y blank))) s (node y f q m (r beside node x e p k none))) role
+              (held-role fs2 _ (Row x n) y f q m (r beside node x e p k none) row2 (omega arith)),
           stand-set fs2 rest y _ (stand-set fs1 rest z _ (stand-set fs rest x _ (l .stand .1 .1) (omega arith)) (omega arith)) (omega arith),
         );
         spare = held-set fs2 Linked free y _ (held-set fs1 Linked free z _ (held-set fs Linked free x _ (l .spare) (omega arith)) (omega arith)) (omega arith);

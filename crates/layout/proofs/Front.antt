@@ -12,10 +12,10 @@ use Rattle.std.specs.Options.{isSome}
 use Rattle.std.proofs.shelf.Tests.{eqb-true, cond-false, false≢true, cases-bool}
 use Rattle.vocabulary.specs.declared.frame_error.FrameError.{FrameError}
 use Rattle.trees.specs.Numbered.{Numbered, node, size, tally, treeOf, listing}
-use Rattle.frames.specs.declared.frame.Frame.{Frame}
-use Rattle.frames.specs.Layout.{Held, Block, report, row, nodes, roleOf, Stand, tallies, sizes, Laid, reportAt, rowAt}
-use Rattle.frames.specs.Reports.{reports, rows}
-use Rattle.frames.proofs.Told.{told}
+use Rattle.layout.specs.declared.frame.Frame.{Frame}
+use Rattle.layout.specs.Layout.{Held, Block, report, row, nodes, roleOf, Stand, tallies, sizes, Laid, reportAt, rowAt}
+use Rattle.layout.specs.Reports.{reports, rows}
+use Rattle.layout.proofs.Told.{told}
 
 -- blocks with one of them in front
 pub record With (fs : List Frame) (bs : List Block) (b : Block) : Type 0 where

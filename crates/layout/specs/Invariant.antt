@@ -6,10 +6,10 @@ use Prim.Native.Nat.{ℕ, _<_}
 use lib.ListN.{getD}
 use Rattle.std.specs.declared.option.Option.{Option}
 use Rattle.std.specs.declared.option.Option.the-variants.{Some}
-use Rattle.frames.specs.declared.frame.Role.{Role}
-use Rattle.frames.specs.declared.frame.Role.the-variants.{Linked, Report, Row}
-use Rattle.frames.specs.declared.frame.Frame.{Frame}
-use Rattle.frames.specs.Layout.{blank}
+use Rattle.layout.specs.declared.frame.Role.{Role}
+use Rattle.layout.specs.declared.frame.Role.the-variants.{Linked, Report, Row}
+use Rattle.layout.specs.declared.frame.Frame.{Frame}
+use Rattle.layout.specs.Layout.{blank}
 
 -- reached from a first frame along the links to the next
 pub data Along (fs : List Frame) : Option ℕ → ℕ → Type 0 where

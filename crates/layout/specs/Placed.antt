@@ -5,9 +5,9 @@ use Prim.Native.Nat.{ℕ, _+_, _<_, _≤_}
 use lib.ListN.{length, getD}
 use Rattle.trees.specs.Trees.{Tree}
 use Rattle.trees.specs.Numbered.{Numbered, shape, size, headOf}
-use Rattle.frames.specs.declared.frame.Role.the-variants.{Linked}
-use Rattle.frames.specs.declared.frame.Frame.{Frame}
-use Rattle.frames.specs.Layout.{blank, Held}
+use Rattle.layout.specs.declared.frame.Role.the-variants.{Linked}
+use Rattle.layout.specs.declared.frame.Frame.{Frame}
+use Rattle.layout.specs.Layout.{blank, Held}
 
 -- the frame `x` is the root of the tree `t`, whose children are held under the numbers of `kids`
 pub record Placed (fs : List Frame) (x : ℕ) (t : Tree) (kids : Numbered) : Type 0 where

@@ -13,12 +13,12 @@ use Rattle.std.proofs.shelf.Lists.{getD-set-same, length-set}
 use Rattle.vocabulary.specs.declared.frame_error.FrameError.the-variants.{Host}
 use Rattle.trees.specs.Numbered.{size, tally, headOf}
 use Rattle.trees.proofs.Numbered.{one-same, one-other}
-use Rattle.frames.specs.declared.frame.Role.the-variants.{Linked}
-use Rattle.frames.specs.declared.frame.Frame.{Frame}
-use Rattle.frames.specs.Layout.{blank, Held, Laid, Sound, down}
-use Rattle.frames.specs.Reports.{Means}
-use Rattle.frames.proofs.Held.{held-set}
-use Rattle.frames.proofs.Told.{told}
+use Rattle.layout.specs.declared.frame.Role.the-variants.{Linked}
+use Rattle.layout.specs.declared.frame.Frame.{Frame}
+use Rattle.layout.specs.Layout.{blank, Held, Laid, Sound, down}
+use Rattle.layout.specs.Reports.{Means}
+use Rattle.layout.proofs.Held.{held-set}
+use Rattle.layout.proofs.Told.{told}
 
 down-size : (i : ℕ) → size (down i) ≡ i
 unfolding down

@@ -11,9 +11,9 @@ use Rattle.std.specs.declared.option.Option.{Option}
 use Rattle.std.specs.declared.option.Option.the-variants.{Some, None}
 use Rattle.std.proofs.shelf.Tests.{cases-eq, eq-eqb, ne-eqb, cond-true, cond-false}
 use Rattle.trees.specs.Numbered.{Numbered, none, node, headOf}
-use Rattle.frames.specs.declared.frame.Frame.{Frame}
-use Rattle.frames.specs.Layout.{Block, nodes, roleOf, Held, Laid, reportAt, rowAt}
-use Rattle.frames.proofs.Told.{absent, first-counts}
+use Rattle.layout.specs.declared.frame.Frame.{Frame}
+use Rattle.layout.specs.Layout.{Block, nodes, roleOf, Held, Laid, reportAt, rowAt}
+use Rattle.layout.proofs.Told.{absent, first-counts}
 
 -- an update covers what stood there
 pub covered : {A : Type 0} (b : Bool) (v v′ w z u : A) → v ≡ v′ → u ≡ cond b w z → cond b v z ≡ cond b v′ u

@@ -12,10 +12,10 @@ use Rattle.std.proofs.shelf.Lists.{getD-set-same, getD-set-other, length-set}
 use Rattle.vocabulary.specs.declared.frame_error.FrameError.{FrameError}
 use Rattle.trees.specs.Numbered.{Numbered, none, node, _beside_, tally, headOf, lastFrom, lastOf}
 use Rattle.trees.proofs.Numbered.{one-same, one-other, apart, some-or-none, last-in}
-use Rattle.frames.specs.declared.frame.Role.{Role}
-use Rattle.frames.specs.declared.frame.Role.the-variants.{Linked}
-use Rattle.frames.specs.declared.frame.Frame.{Frame}
-use Rattle.frames.specs.Layout.{blank, Held, Block, nodes, roleOf, Stand, tallies, linked, cast, changed, Within}
+use Rattle.layout.specs.declared.frame.Role.{Role}
+use Rattle.layout.specs.declared.frame.Role.the-variants.{Linked}
+use Rattle.layout.specs.declared.frame.Frame.{Frame}
+use Rattle.layout.specs.Layout.{blank, Held, Block, nodes, roleOf, Stand, tallies, withNext, withRole, changed, Within}
 
 -- a number does not count, if there is one
 abbrev pub Off : Option ℕ → (ℕ → ℕ) → Type 0
@@ -72,11 +72,11 @@ off-head fs s none f h u = tt
 off-head fs s (node i e p k r) f h u = let a = u i (h .0) in let b = one-same i i refl in omega arith
 
 -- a forest gets a role
-pub held-cast : (fs : List Frame) (s t : Role) (i : ℕ) (e : FrameError) (p : ℕ) (k r : Numbered) → Held fs s (node i e p k r) → tally i k + tally i r ≡ 0
-    → Held (set fs i (cast t (getD fs i blank))) t (node i e p k r)
-held-cast fs s t i e p k r h z = (
+pub held-role : (fs : List Frame) (s t : Role) (i : ℕ) (e : FrameError) (p : ℕ) (k r : Numbered) → Held fs s (node i e p k r) → tally i k + tally i r ≡ 0
+    → Held (set fs i (withRole t (getD fs i blank))) t (node i e p k r)
+held-role fs s t i e p k r h z = (
   simp length-set (h .0),
-  getD-set-same fs i _ blank (h .0) ∙ ap (cast t) (h .1),
+  getD-set-same fs i _ blank (h .0) ∙ ap (withRole t) (h .1),
   held-set fs Linked k i _ (h .2) (omega arith),
   held-set fs Linked r i _ (h .3) (omega arith),
 )
@@ -84,12 +84,12 @@ held-cast fs s t i e p k r h z = (
 -- a forest joined at the end of another
 pub join : (fs : List Frame) (s : Role) (i : ℕ) (e : FrameError) (p : ℕ) (k r t : Numbered) → Held fs s (node i e p k r) → Held fs Linked t
     → ((n : ℕ) → n < length fs → tally n (node i e p k r) + tally n t ≤ 1)
-    → Held (set fs (lastFrom i r) (linked (headOf t) (getD fs (lastFrom i r) blank))) s (node i e p k (r beside t))
+    → Held (set fs (lastFrom i r) (withNext (headOf t) (getD fs (lastFrom i r) blank))) s (node i e p k (r beside t))
 join fs s i e p k none t h g u =
     let o = one-same i i refl in
     let v = u i (h .0) in (
       simp length-set (h .0),
-      getD-set-same fs i _ blank (h .0) ∙ ap (linked (headOf t)) (h .1),
+      getD-set-same fs i _ blank (h .0) ∙ ap (withNext (headOf t)) (h .1),
       held-set fs Linked k i _ (h .2) (omega arith),
       held-set fs Linked t i _ g (omega arith),
     )
@@ -105,7 +105,7 @@ join fs s i e p k (node j f q l r) t h g u =
 
 -- the same where the first may be empty
 pub joins : (fs : List Frame) (r t : Numbered) → Held fs Linked r → Held fs Linked t → ((n : ℕ) → n < length fs → tally n r + tally n t ≤ 1)
-    → Held (changed fs (lastOf r) (linked (headOf t))) Linked (r beside t)
+    → Held (changed fs (lastOf r) (withNext (headOf t))) Linked (r beside t)
 joins fs none t h g u = g
 joins fs (node i e p k r) t h g u = join fs Linked i e p k r t h g u
 

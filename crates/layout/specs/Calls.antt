@@ -1,18 +1,18 @@
 -- What the calls do to reports and rows.
 use mathlib.Core.Path.{_≡_}
-use mathlib.Core.List.{List, []}
+use mathlib.Core.List.{List, [], _∷_, _++_}
 use mathlib.Core.Bool.{true, false}
 use Prim.Native.Nat.{ℕ, _<_}
 use lib.Dec.{eqb}
 use Rattle.std.specs.shelf.Maps.{update}
 use Rattle.std.specs.declared.option.Option.{Option}
 use Rattle.std.specs.declared.option.Option.the-variants.{Some, None}
-use Rattle.trees.specs.Trees.{Tree, leaf, Listing, forest, among, firstRoot}
-pub use Rattle.trees.specs.Listings.{alone, under, joined, firstOf, restOf, opened, bare, childrenOf, listOf}
+use Rattle.trees.specs.Trees.{Forest, empty, Tree, _then_, leaf, Listing, forest, among, firstRoot, listOf}
+pub use Rattle.trees.specs.Listings.{alone, under, joined, firstOf, restOf, opened, bare, childrenOf}
 use Rattle.vocabulary.specs.declared.frame_error.FrameError.{FrameError}
 use Rattle.trees.specs.Counting.{unused}
-use Rattle.frames.specs.declared.frame.Frame.{Frame}
-use Rattle.frames.specs.Reports.{reports, rows, Means}
+use Rattle.layout.specs.declared.frame.Frame.{Frame}
+use Rattle.layout.specs.Reports.{reports, rows, Means}
 
 -- a number that is the root of no report, alone or in a row
 pub record Fresh (fs : List Frame) (n : ℕ) : Type 0 where

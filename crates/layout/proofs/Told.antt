@@ -16,12 +16,12 @@ use Rattle.vocabulary.specs.declared.frame_error.FrameError.{FrameError}
 use Rattle.trees.specs.Trees.{Tree, Listing}
 use Rattle.trees.specs.Numbered.{Numbered, none, node, shape, treeOf, listing, size, tally, headOf}
 use Rattle.trees.proofs.Numbered.{one-same, one-other, apart, some-or-none}
-use Rattle.frames.specs.declared.frame.Role.{Role}
-use Rattle.frames.specs.declared.frame.Role.the-variants.{Linked, Report, Row}
-use Rattle.frames.specs.declared.frame.Frame.{Frame}
-use Rattle.frames.specs.Layout.{blank, Held, Block, report, row, nodes, roleOf, Stand, tallies, sizes, Laid, reportAt, rowAt, isReport, isRow}
-use Rattle.frames.specs.Reports.{read, treeAt, readRow, reports, rows, ifReport, ifRow}
-use Rattle.frames.proofs.Held.{inside, tallies-past}
+use Rattle.layout.specs.declared.frame.Role.{Role}
+use Rattle.layout.specs.declared.frame.Role.the-variants.{Linked, Report, Row}
+use Rattle.layout.specs.declared.frame.Frame.{Frame}
+use Rattle.layout.specs.Layout.{blank, Held, Block, report, row, nodes, roleOf, Stand, tallies, sizes, Laid, reportAt, rowAt, isReport, isRow}
+use Rattle.layout.specs.Reports.{read, treeAt, readRow, reports, rows, ifReport, ifRow}
+use Rattle.layout.proofs.Held.{inside, tallies-past}
 
 pub read-held : (n : ℕ) (fs : List Frame) (s : Role) (r : Numbered) → Held fs s r → size r ≤ n → read n fs (headOf r) ≡ shape r
 unfolding read

@@ -11,9 +11,9 @@ use Rattle.vocabulary.specs.declared.frame_error.FrameError.{FrameError}
 use Rattle.vocabulary.specs.declared.frame_error.FrameError.the-variants.{Host}
 use Rattle.trees.specs.Trees.{Tree, Listing}
 use Rattle.trees.specs.Numbered.{Numbered, none, node, treeOf, listing, size, tally, headOf, lastFrom, lastOf}
-use Rattle.frames.specs.declared.frame.Role.{Role}
-use Rattle.frames.specs.declared.frame.Role.the-variants.{Linked, Report, Row}
-use Rattle.frames.specs.declared.frame.Frame.{Frame}
+use Rattle.layout.specs.declared.frame.Role.{Role}
+use Rattle.layout.specs.declared.frame.Role.the-variants.{Linked, Report, Row}
+use Rattle.layout.specs.declared.frame.Frame.{Frame}
 
 abbrev pub blank : Frame
 blank = record { error = Host 0; place = 0; first = None; last = None; next = None; size = 0; role = Linked }
@@ -82,12 +82,12 @@ rowAt j (report i e p k ∷ bs) = rowAt j bs
 rowAt j (row i e p k r ∷ bs) = cond (eqb j i) (Some (listing (node i e p k r))) (rowAt j bs)
 
 -- the frame with another next
-abbrev pub linked : Option ℕ → Frame → Frame
-linked l f = record { error = f .error; place = f .place; first = f .first; last = f .last; next = l; size = f .size; role = f .role }
+abbrev pub withNext : Option ℕ → Frame → Frame
+withNext l f = record { error = f .error; place = f .place; first = f .first; last = f .last; next = l; size = f .size; role = f .role }
 
 -- the frame with another role
-abbrev pub cast : Role → Frame → Frame
-cast s f = record { error = f .error; place = f .place; first = f .first; last = f .last; next = f .next; size = f .size; role = s }
+abbrev pub withRole : Role → Frame → Frame
+withRole s f = record { error = f .error; place = f .place; first = f .first; last = f .last; next = f .next; size = f .size; role = s }
 
 -- the frames with one of them changed, if there is one
 abbrev pub changed : List Frame → Option ℕ → (Frame → Frame) → List Frame

@@ -20,25 +20,25 @@ use Rattle.std.proofs.shelf.Tests.{cases-eq, eq-eqb, ne-eqb, cond-true, cond-fa
 use Rattle.trees.specs.Trees.{Tree, Listing, firstRoot}
 use Rattle.trees.specs.Numbered.{Numbered, size, treeOf}
 use Rattle.trees.proofs.Sets.{forest-set, report-set, row-set, option-set}
-use Rattle.frames.specs.declared.frame.Role.the-variants.{Linked, Row}
-use Rattle.frames.specs.declared.frame.Frame.{Frame}
-use Rattle.frames.specs.Layout.{blank, Layout, Sound, cast, Within, either, lastRoot, rowSize}
-use Rattle.frames.specs.Reports.{reports, rows, Means}
-use Rattle.frames.specs.Calls.{alone, under, joined, firstOf, restOf, opened, Fresh, Drained, Begun}
+use Rattle.layout.specs.declared.frame.Role.the-variants.{Linked, Row}
+use Rattle.layout.specs.declared.frame.Frame.{Frame}
+use Rattle.layout.specs.Layout.{blank, Layout, Sound, withRole, Within, either, lastRoot, rowSize}
+use Rattle.layout.specs.Reports.{reports, rows, Means}
+use Rattle.layout.specs.Calls.{alone, under, joined, firstOf, restOf, opened, Fresh, Drained, Begun}
 use Rattle.trees.specs.Counting.{unused, inReport}
 use Rattle.trees.proofs.Numbered.{counted}
-use Rattle.frames.specs.Placed.{Placed}
+use Rattle.layout.specs.Placed.{Placed}
 use Rattle.vocabulary.specs.declared.frame_error.FrameError.{FrameError}
-use Rattle.frames.proofs.Front.{front-report, FrontRow, front-row, FrontBoth, front-both}
-use Rattle.frames.proofs.Joins as joins
-use Rattle.frames.proofs.Joins.{joinedFrames, pushedFrames}
-use Rattle.frames.proofs.Split as split
-use Rattle.frames.proofs.Split.{poppedFrames, drainedFrames}
-use Rattle.frames.proofs.Count.{count-is}
-use Rattle.frames.proofs.Free as freeing
-use Rattle.frames.proofs.Free.{freedFrames, begunFrames, First, first-free, none-free}
-use Rattle.frames.proofs.Told.{report-no-row}
-use Rattle.frames.proofs.Rows.{report-below, report-frame, report-is, rowed-layout, rowed-means}
+use Rattle.layout.proofs.Front.{front-report, FrontRow, front-row, FrontBoth, front-both}
+use Rattle.layout.proofs.Joins as joins
+use Rattle.layout.proofs.Joins.{joinedFrames, pushedFrames}
+use Rattle.layout.proofs.Split as split
+use Rattle.layout.proofs.Split.{poppedFrames, drainedFrames}
+use Rattle.layout.proofs.Count.{count-is}
+use Rattle.layout.proofs.Free as freeing
+use Rattle.layout.proofs.Free.{freedFrames, begunFrames, First, first-free, none-free}
+use Rattle.layout.proofs.Told.{report-no-row}
+use Rattle.layout.proofs.Rows.{report-below, report-frame, report-is, rowed-layout, rowed-means}
 
 pub means-prop : (fs : List Frame) (g : ℕ → Option Tree) (h : ℕ → Option Listing) → IsProp (Means fs g h)
 means-prop fs g h x y = λ i. record {
@@ -81,11 +81,11 @@ module _ {fs : List Frame} {head : Option ℕ} {count : ℕ} (sound : Sound fs h
     pub live-below : x < 1024
     live-below = ∥∥₁-elim sound le-prop (λ l. report-below (front-report (l .laid) x live .laid))
 
-    pub row-of-sound : Sound (set fs x (cast (Row x (getD fs x blank .size)) (getD fs x blank))) head count
+    pub row-of-sound : Sound (set fs x (withRole (Row x (getD fs x blank .size)) (getD fs x blank))) head count
     row-of-sound = ∥∥₁-map sound (λ l. let f = front-report (l .laid) x live in
         record { live = _; free = l .free; laid = rowed-layout (f .laid) _ (ap (λ (g : Frame). g .size) (report-frame (f .laid))) })
 
-    pub row-of-means : Means (set fs x (cast (Row x (getD fs x blank .size)) (getD fs x blank))) (update eqb (reports fs) x None) (update eqb (rows fs) x (alone x (reports fs x)))
+    pub row-of-means : Means (set fs x (withRole (Row x (getD fs x blank .size)) (getD fs x blank))) (update eqb (reports fs) x None) (update eqb (rows fs) x (alone x (reports fs x)))
     row-of-means = ∥∥₁-elim sound (means-prop _ _ _) (λ l. let f = front-report (l .laid) x live in
         rowed-means (f .laid) _ (ap (λ (g : Frame). g .size) (report-frame (f .laid))))
 

@@ -14,14 +14,14 @@ use Rattle.std.proofs.shelf.Lists.{getD-past}
 use Rattle.vocabulary.specs.declared.frame_error.FrameError.{FrameError}
 use Rattle.trees.specs.Numbered.{Numbered, none, node, one, tally, headOf}
 use Rattle.trees.proofs.Numbered.{one-same, one-other, some-or-none}
-use Rattle.frames.specs.declared.frame.Role.{Role}
-use Rattle.frames.specs.declared.frame.Role.the-variants.{Linked}
-use Rattle.frames.specs.declared.frame.Frame.{Frame}
-use Rattle.frames.specs.Layout.{blank, Held, Block, report, row, nodes, roleOf, Stand, tallies, Laid, Sound}
-use Rattle.frames.specs.Invariant.{Along, here, next, From, self, down, Ancestor, Begins, Root, Belongs, Free, WellFormed}
-use Rattle.frames.proofs.Held.{inside, tally-past, tallies-past}
-use Rattle.frames.proofs.Told.{is-first, linked-inside}
-use Rattle.frames.proofs.Front.{With, here as with-first, there as with-later}
+use Rattle.layout.specs.declared.frame.Role.{Role}
+use Rattle.layout.specs.declared.frame.Role.the-variants.{Linked}
+use Rattle.layout.specs.declared.frame.Frame.{Frame}
+use Rattle.layout.specs.Layout.{blank, Held, Block, report, row, nodes, roleOf, Stand, tallies, Laid, Sound}
+use Rattle.layout.specs.Invariant.{Along, here, next, From, self, down, Ancestor, Begins, Root, Belongs, Free, WellFormed}
+use Rattle.layout.proofs.Held.{inside, tally-past, tallies-past}
+use Rattle.layout.proofs.Told.{is-first, linked-inside}
+use Rattle.layout.proofs.Front.{With, here as with-first, there as with-later}
 
 none-some : (n : ℕ) → Some n ≡ None → ⊥
 none-some n q = let w : _≡_ {A = ℕ} 0 1 = cc in omega arith

@@ -10,21 +10,21 @@ use lib.Dec.{eqb}
 use Rattle.std.specs.shelf.Maps.{update}
 use Rattle.std.specs.declared.option.Option.{Option}
 use Rattle.std.specs.declared.option.Option.the-variants.{Some, None}
-use Rattle.std.proofs.shelf.Tests.{cases-lt, cases-bool, ne-eqb, eqb-true, cond-true, cond-false, false≢true}
+use Rattle.std.proofs.shelf.Tests.{cases-lt, cases-bool, ne-eqb, cond-true, cond-false}
 use Rattle.std.proofs.shelf.Lists.{length-set, getD-set-same}
 use Rattle.vocabulary.specs.declared.frame_error.FrameError.{FrameError}
-use Rattle.trees.specs.Trees.{Tree, leaf, Listing, forest, among, firstRoot}
+use Rattle.trees.specs.Trees.{Tree, leaf, Listing, forest, among, firstRoot, listOf}
 use Rattle.trees.specs.Numbered.{Numbered, none, node, size, one, tally, treeOf, listing, headOf, lastFrom, lastOf}
-use Rattle.trees.proofs.Numbered.{one-same, forest-listing, among-absent}
-use Rattle.frames.specs.declared.frame.Role.{Role}
-use Rattle.frames.specs.declared.frame.Role.the-variants.{Linked, Report, Row}
-use Rattle.frames.specs.declared.frame.Frame.{Frame}
-use Rattle.frames.specs.Layout.{blank, frameOf, Held, Block, report, row, nodes, Stand, tallies, sizes, Laid, reportAt, rowAt, cast, changed, Within, lastRoot, rowSize, rowRole}
-use Rattle.frames.specs.Reports.{reports, rows, Means}
-use Rattle.frames.specs.Calls.{firstOf, restOf, opened, bare, childrenOf, listOf, Fresh, taken, Drained}
-use Rattle.frames.proofs.Held.{held-set, held-changed, stand-set, held-cast, length-changed, off-head, within-last, within-head, tally-past}
-use Rattle.frames.proofs.Told.{told, absent}
-use Rattle.frames.proofs.Means.{covered, gone, added, found, first-below, first-once}
+use Rattle.trees.proofs.Numbered.{one-same, forest-listing, among-absent, among-counts}
+use Rattle.layout.specs.declared.frame.Role.{Role}
+use Rattle.layout.specs.declared.frame.Role.the-variants.{Linked, Report, Row}
+use Rattle.layout.specs.declared.frame.Frame.{Frame}
+use Rattle.layout.specs.Layout.{blank, frameOf, Held, Block, report, row, nodes, Stand, tallies, sizes, Laid, reportAt, rowAt, withRole, changed, Within, lastRoot, rowSize, rowRole}
+use Rattle.layout.specs.Reports.{reports, rows, Means}
+use Rattle.layout.specs.Calls.{firstOf, restOf, opened, bare, childrenOf, Fresh, taken, Drained}
+use Rattle.layout.proofs.Held.{held-set, held-changed, stand-set, held-role, length-changed, off-head, within-last, within-head, tally-past}
+use Rattle.layout.proofs.Told.{told, absent}
+use Rattle.layout.proofs.Means.{covered, gone, added, found, first-below, first-once}
 
 -- a forest as a row, if it has any tree
 abbrev pub rowed : Numbered → List Block → List Block
@@ -53,15 +53,15 @@ first-listing (node i e p k r) = refl
 
 -- the frames with a row from `first` on, and `top` at `x`
 abbrev pub splitAt : List Frame → ℕ → Option ℕ → Role → Frame → List Frame
-splitAt fs x first s top = set (changed fs first (cast s)) x top
+splitAt fs x first s top = set (changed fs first (withRole s)) x top
 
 stand-rowed : (fs : List Frame) (k : Numbered) (bs : List Block) → Held fs Linked k → Stand fs bs → ((n : ℕ) → n < length fs → tally n k + tallies n bs ≤ 1)
-    → Stand (changed fs (headOf k) (cast (rowRole (lastOf k) (size k)))) (rowed k bs)
+    → Stand (changed fs (headOf k) (withRole (rowRole (lastOf k) (size k)))) (rowed k bs)
 stand-rowed fs none bs h g u = g
 stand-rowed fs (node i e p k r) bs h g u =
     let a = u i (h .0) in
     let b = one-same i i refl in
-    (held-cast fs Linked _ i e p k r h (omega arith), stand-set fs bs i _ g (omega arith))
+    (held-role fs Linked _ i e p k r h (omega arith), stand-set fs bs i _ g (omega arith))
 
 -- a root keeps the forest `k`, and `out` becomes a row
 split-layout : {fs : List Frame} {head : Option ℕ} {count : ℕ} {b : Block} {rest : List Block} {free : Numbered} (l : Laid fs head count (b ∷ rest) free)
@@ -69,7 +69,7 @@ split-layout : {fs : List Frame} {head : Option ℕ} {count : ℕ} {b : Block} {
     → ((n : ℕ) → tally n (nodes b) ≡ one n x + (tally n k + tally n out)) → size (nodes b) ≡ (size k + 1) + size out
     → Laid (splitAt fs x (headOf out) (rowRole (lastOf out) (size out)) (frameOf Report e p k none)) head count (report x e p k ∷ rowed out rest) free
 split-layout {fs} {rest = rest} {free = free} l x e p k out q hk ho same many =
-    let fs1 = changed fs (headOf out) (cast (rowRole (lastOf out) (size out))) in
+    let fs1 = changed fs (headOf out) (withRole (rowRole (lastOf out) (size out))) in
     let o : (n : ℕ) → n < 1024 → one n x + (tally n k + tally n out) + tallies n rest + tally n free ≡ 1 = λ n lt. (let a = l .once n lt in let b = same n in omega arith) in
     let x0 = first-below l x q in
     let ox = o x x0 in
@@ -125,13 +125,13 @@ drainedBy fs x f = splitAt fs x (f .first) (rowRole (f .last) (f .size - 1))
 abbrev pub drainedFrames : List Frame → ℕ → List Frame
 drainedFrames fs x = drainedBy fs x (getD fs x blank)
 
-pub popped-from : (fs gs : List Frame) (x : ℕ) (s : Role) (l : Option ℕ) (n : ℕ) → gs ≡ changed fs (getD fs x blank .next) (cast s)
+pub popped-from : (fs gs : List Frame) (x : ℕ) (s : Role) (l : Option ℕ) (n : ℕ) → gs ≡ changed fs (getD fs x blank .next) (withRole s)
     → s ≡ rowRole l (n - getD fs x blank .size) → l ≡ lastRoot (getD fs x blank .role) → n ≡ rowSize (getD fs x blank .role)
     → set gs x (record { error = getD fs x blank .error; place = getD fs x blank .place; first = getD fs x blank .first; last = getD fs x blank .last; next = None; size = getD fs x blank .size; role = Report })
     ≡ poppedFrames fs x
 popped-from fs gs x s l n a b c d = rw (a, b, c, d)
 
-pub drained-from : (fs gs : List Frame) (x : ℕ) (s : Role) → gs ≡ changed fs (getD fs x blank .first) (cast s)
+pub drained-from : (fs gs : List Frame) (x : ℕ) (s : Role) → gs ≡ changed fs (getD fs x blank .first) (withRole s)
     → s ≡ rowRole (getD fs x blank .last) (getD fs x blank .size - 1)
     → set gs x (record { error = getD fs x blank .error; place = getD fs x blank .place; first = None; last = None; next = getD fs x blank .next; size = 1; role = getD fs x blank .role })
     ≡ drainedFrames fs x
@@ -218,7 +218,7 @@ module _ {fs : List Frame} {head : Option ℕ} {count x : ℕ} {e : FrameError} 
 
   children-fresh : (n : ℕ) → among n (listing k) ≡ true → Fresh fs n
   children-fresh n a =
-      let c = in-listing k n a in
+      let c = among-counts n k a in
       let n0 : n < 1024 = below n c in
       let o = l .once n n0 in
       let z : tallies n rest ≡ 0 = omega arith in
@@ -228,14 +228,6 @@ module _ {fs : List Frame} {head : Option ℕ} {count x : ℕ} {e : FrameError} 
         row = λ h. ap (λ (u : Option Listing). among n (listOf u)) (told l h .1) ∙ not-among rest n h z;
       }
     where
-      in-listing : (k : Numbered) (n : ℕ) → among n (listing k) ≡ true → 1 ≤ tally n k
-      in-listing none n a = absurd (false≢true a)
-      in-listing (node i e p k r) n a =
-          ⊎-elim
-          (λ q. let o = one-same n i (eqb-true n i q) in omega arith)
-          (λ q. let b = in-listing r n (sym (cond-false (eqb n i) true (among n (listing r)) q) ∙ a) in omega arith)
-          (cases-bool (eqb n i))
-
       below : (n : ℕ) → 1 ≤ tally n k → n < 1024
       below n c = ⊎-elim (λ lt. lt) (λ ge. absurd (let z = tally-past fs Linked k n (l .stand .0 .2) (let g = l .long in omega arith) in omega arith)) (cases-lt n 1024)
 

@@ -1,0 +1,13 @@
+pub mod Held
+pub mod Told
+pub mod Front
+pub mod Means
+pub mod Rows
+pub mod Joins
+pub mod Split
+pub mod Count
+pub mod Free
+pub mod Empty
+pub mod Calls
+pub mod Invariant
+pub mod Roots

@@ -1,0 +1,5 @@
+pub mod Layout
+pub mod Reports
+pub mod Calls
+pub mod Invariant
+pub mod Placed
