@@ -1,7 +1,12 @@
 // One failed movement of the drive from beginning to end: the error that it ended with, the sources beneath it with
-// their texts and kinds, then the class and both verdicts.
+// their texts and kinds, then the class and both verdicts; and the building calls that a report of it takes.
+use crate::log::Log;
 use drive_host::drive::DriveHost;
 use drive_host::drive::DriveHostHost;
+
+mod build;
+mod log;
+
 use host::host::Host;
 use host::judge::dominant_class;
 use host::judge::retry;
@@ -90,6 +95,22 @@ fn print_account(rt: &LibcRuntime, error: u16) -> Result<(), AnyError> {
     let lenient = yes_or_no(lenient);
     println!(rt, "Try again: {strict}")?;
     println!(rt, "Try again, lenient: {lenient}")?;
+    print_calls(rt)
+}
+
+// What the building calls answered, one to a line.
+fn print_calls(rt: &LibcRuntime) -> Result<(), AnyError> {
+    let mut log = Log::new();
+    build::run(&mut log);
+    println!(rt, "As reports in a store of 1024 frames:")?;
+    for step in log.steps() {
+        let name = step.call.name();
+        let free = step.free;
+        match step.refused {
+            None => println!(rt, "  {name:<15} granted, {free} frames free")?,
+            Some(number) => println!(rt, "  {name:<15} refused with {number}, {free} frames free")?,
+        }
+    }
     Ok(())
 }
 

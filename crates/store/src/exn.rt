@@ -137,14 +137,14 @@ impl Exn {
     pub fn discard(mut self, store: &mut Store) -> Result<(), Refusal<Exn>>
         ensures { λ r. ⌜ Discarded (now (store .entry)) (now (store .exit)) self r ⌝ }
     {
-        if !store.holds(&self) {
-            return Err(Refusal {
-                fault: StoreFault::NotHeld,
-                given: self,
-            });
+        if store.holds(&self) {
+            store.frames.discard(self.root);
+            self.spent = true;
+            return Ok(());
         }
-        store.frames.discard(self.root);
-        self.spent = true;
-        Ok(())
+        Err(Refusal {
+            fault: StoreFault::NotHeld,
+            given: self,
+        })
     }
 }

@@ -4,6 +4,7 @@ ghost use Rattle.std.specs.Options.{isSome};
 ghost use Rattle.std.specs.declared.option.Option.the-variants.{Some};
 ghost use Rattle.trees.specs.Listings.{restOf};
 ghost use Rattle.trees.specs.Trees.{firstRoot};
+ghost use Rattle.layout.specs.Invariant.{WellFormed};
 ghost use Rattle.ledger.specs.Causes.{isBasket, isHeld, isRow};
 ghost use Rattle.ledger.specs.Ledger.{chainedAll, collected, free as freeIn, longer, nothing, rowOf, taken};
 ghost use Rattle.store.specs.Calls.{FrameMade};
@@ -40,6 +41,14 @@ impl Store {
         ensures { λ r. ⌜ r ≡ freeIn (ledgerOf (now (self .entry))) ⌝ }
     {
         self.frames.free()
+    }
+
+    // Does nothing: its contract says of the links of every store's frames that each frame is free or belongs to exactly
+    // one report, and that no frame is its own ancestor.
+    pub fn well_formed(&self)
+        ensures { λ _. ⌜ WellFormed (now (self .entry) .frames .frames) (now (self .entry) .frames .free) ⌝ }
+    {
+        self.frames.well_formed();
     }
 
     // Whether a report is this store's, and live.
