@@ -1,2 +1,4 @@
 // The classes of errors, in the order of their remedies.
+#![tactic(auto)]
+
 pub mod class;

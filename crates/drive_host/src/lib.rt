@@ -1,2 +1,4 @@
 // The drive's own errors.
+#![tactic(auto)]
+
 pub mod drive;

@@ -1,4 +1,6 @@
 // Tests of the hosts and of what is asked of one error.
+#![tactic(auto)]
+
 use host::host::Host;
 use host::judge::{dominant_class, retry};
 use vocabulary::fault::HostFault;

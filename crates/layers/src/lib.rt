@@ -1,4 +1,6 @@
 // Two layers that make errors around those of any host.
+#![tactic(auto)]
+
 pub mod addition;
 pub mod entries;
 pub mod entry;

@@ -1,5 +1,7 @@
 // One failed movement of the drive from beginning to end: the error that it ended with, the sources beneath it with
 // their texts and kinds, then the class and both verdicts; and the building calls that a report of it takes.
+#![tactic(auto)]
+
 use crate::log::Log;
 use drive_host::drive::DriveHost;
 

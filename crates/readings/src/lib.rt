@@ -1,5 +1,7 @@
 // Theory: what a report comes to, its class, its verdict and its probable cause, read frame by frame. The definitions
 // are in specs/, laws about them in proofs/.
+#![tactic(auto)]
+
 ghost use Rattle.readings.specs.Laws.{CauseStands, CauseOnce, ClassOverFrames, AnyOverFrames, ClassByFrames, AnyByFrames, VerdictByFrames, CauseFromBack, CauseAtRoot, FramesInOrder, FirstNotLiveByFrames, LiveByFrames};
 
 // The fold over a report's nodes gives its probable cause, and there is no other.

@@ -1,2 +1,4 @@
 // The trees of lists of nodes, made in the frames of a store again.
+#![tactic(auto)]
+
 pub mod build;

@@ -1,4 +1,6 @@
 // Tests of the calls that build reports, over a bench that never loses a report or basket.
+#![tactic(auto)]
+
 pub mod bench;
 pub mod cross;
 #[cfg(test)]

@@ -1,4 +1,6 @@
 // Reports gone through breadth-first.
+#![tactic(auto)]
+
 pub mod flatten;
 pub mod order;
 pub mod report;
