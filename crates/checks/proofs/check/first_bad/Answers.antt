@@ -4,34 +4,34 @@ use Rattle.nodes.proofs.Checking.{conclusions_first, conclusions_more, bad_empty
 use Rattle.checks.proofs.check.first_bad.Goals as goal
 use Rattle.checks.proofs.check.first_bad.Goals.{then-node, else-node, then-is-empty-via-then-is-empty, then-is-empty-via-else-is-empty+then-not-is-root}
 
-pub returns-then-is-empty : goal.returns-then-is-empty
-returns-then-is-empty g c =
+pub returns-then-is_empty : goal.returns-then-is_empty
+returns-then-is_empty g c =
     let host = c.args.host.now in
     let nodes = c.args.nodes.now in
-    elim c.then-is-empty.branch [
+    elim c.then-is_empty.branch [
       | then-is-empty-via-then-is-empty w ↦
-          bad_empty (g.H.Host.errors host) nodes (g.H.Host.extent host) (g.met.H.Host.lawful host) (eqb-true (length nodes) 0 (sym c.is-empty.ensures ∙ w.if-is-empty.true))
+          bad_empty (g.H.Host.errors host) nodes (g.H.Host.extent host) (g.met.H.Host.lawful host) (eqb-true (length nodes) 0 (sym c.is_empty.ensures ∙ w.if-is_empty.true))
       | then-is-empty-via-else-is-empty+then-not-is-root w ↦
-          let some = eqb-false (length nodes) 0 (sym c.is-empty.ensures ∙ w.if-is-empty.false) in
+          let some = eqb-false (length nodes) 0 (sym c.is_empty.ensures ∙ w.if-is_empty.false) in
           let low : 0 < length nodes = omega arith in
           bad_root (g.H.Host.errors host) nodes (g.H.Host.extent host) (g.met.H.Host.lawful host) low
-          (λ root. both_ways w.is-root.result w.if-not-is-root.true (w.is-root.ensures.1 root))
+          (λ root. both_ways w.is_root.result w.if-not-is_root.true (w.is_root.ensures.1 root))
     ]
 
 pub loop-i-init : goal.loop-i-init
 loop-i-init g c =
     let host = c.args.host.now in
     let nodes = c.args.nodes.now in
-    let some = eqb-false (length nodes) 0 (sym c.is-empty.ensures ∙ c.if-is-empty.false) in
+    let some = eqb-false (length nodes) 0 (sym c.is_empty.ensures ∙ c.if-is_empty.false) in
     let low : 0 < length nodes = omega arith in
-    conclusions_first (g.H.Host.errors host) nodes (g.H.Host.extent host) (g.met.H.Host.lawful host) c.next-owing-owing.result low (c.is-root.ensures.0 c.if-not-is-root.false) c.next-owing-owing.ensures
+    conclusions_first (g.H.Host.errors host) nodes (g.H.Host.extent host) (g.met.H.Host.lawful host) c.next_owing-owing.result low (c.is_root.ensures.0 c.if-not-is_root.false) c.next_owing-owing.ensures
 
 pub loop-i-preserved : goal.loop-i-preserved
 loop-i-preserved g c =
     let host = c.args.host.now in
     let nodes = c.args.nodes.now in
     let fit : c.loop-i.i < length nodes = (let t = c.loop-i-test.true in omega arith) in
-    conclusions_more (g.H.Host.errors host) nodes (g.H.Host.extent host) (g.met.H.Host.lawful host) c.loop-i.i c.loop-i.last c.loop-i.owing c.if-node.from c.unwrap-or-last.result c.next-owing-owing-in-loop-i.result c.loop-i.invariant fit
-    (c.node-fits.ensures.0 c.if-not-node-fits.false)
+    conclusions_more (g.H.Host.errors host) nodes (g.H.Host.extent host) (g.met.H.Host.lawful host) c.loop-i.i c.loop-i.last c.loop-i.owing c.if-node.from c.unwrap_or-last.result c.next_owing-owing-in-loop-i.result c.loop-i.invariant fit
+    (c.node_fits.ensures.0 c.if-not-node_fits.false)
     (elim c.if-node.branch [ then-node w ↦ inl (w.if-node.true, w.from-is) | else-node w ↦ inr (w.if-node.false, w.from-is) ])
-    c.unwrap-or-last.ensures c.next-owing-owing-in-loop-i.ensures
+    c.unwrap_or-last.ensures c.next_owing-owing-in-loop-i.ensures

@@ -7,16 +7,16 @@ use Rattle.host.proofs.judge.deepest_challenge.Goals as goal
 pub loop-at-smaller : goal.loop-at-smaller
 loop-at-smaller g c =
     let host = c.args.host.now in
-    (step (g.H.Host.errors host) _ (g.met.H.Host.lawful host) c.loop-at.at c.in-ok-at.at c.in-Some.e c.in-ok-kind-2.field-0 c.in-Some.is c.in-ok-kind-2.ensures c.in-ok-at.ensures).falls
+    (step (g.H.Host.errors host) _ (g.met.H.Host.lawful host) c.loop-at.at c.in_ok-at.at c.in-Some.e c.in_ok-kind-2.field-0 c.in-Some.is c.in_ok-kind-2.ensures c.in_ok-at.ensures).falls
 
 pub loop-at-preserved : goal.loop-at-preserved
 loop-at-preserved g c =
     let host = c.args.host.now in
-    let s = step (g.H.Host.errors host) _ (g.met.H.Host.lawful host) c.loop-at.at c.in-ok-at.at c.in-Some.e c.in-ok-kind-2.field-0 c.in-Some.is c.in-ok-kind-2.ensures c.in-ok-at.ensures in
+    let s = step (g.H.Host.errors host) _ (g.met.H.Host.lawful host) c.loop-at.at c.in_ok-at.at c.in-Some.e c.in_ok-kind-2.field-0 c.in-Some.is c.in_ok-kind-2.ensures c.in_ok-at.ensures in
     (deepest_again _ _ _ _ _ s c.loop-at.challenge _ _ c.deeper-challenge.ensures c.loop-at.invariant.0, s.live)
 
 pub returns : goal.returns
 returns g c =
     let told = g.H.Host.errors c.args.host.now in
-    let all = sym (ap (λ (xs : List ℕ). or (deepest told xs) c.loop-at.challenge) (no_chain told c.loop-at.at c.in-default.is)) ∙ c.loop-at.invariant.0 in
-    ap Ok all ∙ constantly _ _ _ _ _ c.in-ok-kind.ensures
+    let all = sym (ap (λ (xs : List ℕ). or (deepest told xs) c.loop-at.challenge) (no_chain told c.loop-at.at c.in_default.is)) ∙ c.loop-at.invariant.0 in
+    ap Ok all ∙ constantly _ _ _ _ _ c.in_ok-kind.ensures

@@ -8,6 +8,6 @@ returns g c =
     let host = c.args.host.now in
     let told = g.H.Host.errors host in
     let e = c.args.error in
-    let found = (answered (told e) e _ _ c.in-ok-challenge.ensures).2 in
-    ap Ok (c.pair-in-chain.ensures ∙ pair_alone told _ (g.met.H.Host.lawful host) e c.in-ok-kind.kind c.in-ok-challenge.challenge c.in-ok-kind.ensures found)
-    ∙ constantly (told e) e _ _ _ c.in-ok-kind.ensures
+    let found = (answered (told e) e _ _ c.in_ok-challenge.ensures).2 in
+    ap Ok (c.pair_in_chain.ensures ∙ pair_alone told _ (g.met.H.Host.lawful host) e c.in_ok-kind.kind c.in_ok-challenge.challenge c.in_ok-kind.ensures found)
+    ∙ constantly (told e) e _ _ _ c.in_ok-kind.ensures

@@ -8,14 +8,14 @@ use Rattle.host.proofs.sources.chain_len.Goals as goal
 pub loop-at-init : goal.loop-at-init
 loop-at-init g c =
     let host = c.args.host.now in
-    (refl, (next_is (g.H.Host.errors host) _ (g.met.H.Host.lawful host) (Some c.args.error) c.in-ok-at.at c.args.error refl c.in-ok-at.ensures).live)
+    (refl, (next_is (g.H.Host.errors host) _ (g.met.H.Host.lawful host) (Some c.args.error) c.in_ok-at.at c.args.error refl c.in_ok-at.ensures).live)
 
-pub overflow-add-len : goal.overflow-add-len
-overflow-add-len g c =
+pub overflow_add-len : goal.overflow_add-len
+overflow_add-len g c =
     let h = g.H.Host.errors c.args.host.now in
-    let n = next_is h _ (g.met.H.Host.lawful c.args.host.now) (Some c.args.error) c.in-ok-at.at c.args.error refl c.in-ok-at.ensures in
+    let n = next_is h _ (g.met.H.Host.lawful c.args.host.now) (Some c.args.error) c.in_ok-at.at c.args.error refl c.in_ok-at.ensures in
     let f = n.falls in
-    let s = chain_short h (bound c.in-ok-at.at) c.in-ok-at.at in
+    let s = chain_short h (bound c.in_ok-at.at) c.in_ok-at.at in
     let i = c.loop-at.invariant.0 in
     let m = c.ranges.error.fits in
     search rules
@@ -23,12 +23,12 @@ overflow-add-len g c =
 pub loop-at-smaller : goal.loop-at-smaller
 loop-at-smaller g c =
     let host = c.args.host.now in
-    (next_is (g.H.Host.errors host) _ (g.met.H.Host.lawful host) c.loop-at.at c.in-ok-at-2.at c.in-Some.e c.in-Some.is c.in-ok-at-2.ensures).falls
+    (next_is (g.H.Host.errors host) _ (g.met.H.Host.lawful host) c.loop-at.at c.in_ok-at-2.at c.in-Some.e c.in-Some.is c.in_ok-at-2.ensures).falls
 
 pub loop-at-preserved : goal.loop-at-preserved
 loop-at-preserved g c =
     let host = c.args.host.now in
-    let n = next_is (g.H.Host.errors host) _ (g.met.H.Host.lawful host) c.loop-at.at c.in-ok-at-2.at c.in-Some.e c.in-Some.is c.in-ok-at-2.ensures in
+    let n = next_is (g.H.Host.errors host) _ (g.met.H.Host.lawful host) c.loop-at.at c.in_ok-at-2.at c.in-Some.e c.in-Some.is c.in_ok-at-2.ensures in
     let a : ◌≡◌ {A = ℕ} _ _ = ap (λ (xs : List ℕ). length xs) n.list in
     let i = c.loop-at.invariant.0 in
     ((omega arith), n.live)
@@ -36,9 +36,9 @@ loop-at-preserved g c =
 pub returns : goal.returns
 returns g c =
     let h = g.H.Host.errors c.args.host.now in
-    let n = next_is h _ (g.met.H.Host.lawful c.args.host.now) (Some c.args.error) c.in-ok-at.at c.args.error refl c.in-ok-at.ensures in
-    let a : length (chain h c.args.error) ≡ 1 + length (chain_from h c.in-ok-at.at) = ap (λ (xs : List ℕ). length xs) n.list ∙ omega arith in
-    let z : length (chain_from h c.loop-at.at) ≡ 0 = ap (λ (xs : List ℕ). length xs) (no_chain h c.loop-at.at c.in-default.is) in
+    let n = next_is h _ (g.met.H.Host.lawful c.args.host.now) (Some c.args.error) c.in_ok-at.at c.args.error refl c.in_ok-at.ensures in
+    let a : length (chain h c.args.error) ≡ 1 + length (chain_from h c.in_ok-at.at) = ap (λ (xs : List ℕ). length xs) n.list ∙ omega arith in
+    let z : length (chain_from h c.loop-at.at) ≡ 0 = ap (λ (xs : List ℕ). length xs) (no_chain h c.loop-at.at c.in_default.is) in
     let i = c.loop-at.invariant.0 in
     let e : c.loop-at.len ≡ length (chain h c.args.error) = omega arith in
-    ap Ok e ∙ constantly _ _ _ _ _ c.in-ok-at.ensures
+    ap Ok e ∙ constantly _ _ _ _ _ c.in_ok-at.ensures

@@ -19,8 +19,8 @@ pop-first-requires c = ∥∥₁_elim c.requires (Bool-set _ _) (λ w.
     let a = c.loop.invariant w.0 w.1.0 w.1.1.0 w.1.1.1.0 w.1.1.1.1 in
     row_there _ _ _ _ _ _ a (left w.1.0 _ _ c.loop-test.true w.1.1.1.1) _ c.unwrap-child.ensures)
 
-pub join-first-requires : goal.join-first-requires
-join-first-requires c = record {
+pub join_first-requires : goal.join_first-requires
+join_first-requires c = record {
   first = ∥∥₁_elim c.requires (Bool-set _ _) (λ w.
       let a = c.loop.invariant w.0 w.1.0 w.1.1.0 w.1.1.1.0 w.1.1.1.1 in
       root_there _ _ _ _ _ _ a (left w.1.0 _ _ c.loop-test.true w.1.1.1.1) _ c.unwrap-child.ensures _ c.pop-first.ensures.means);
@@ -36,7 +36,7 @@ pub loop-preserved : goal.loop-preserved
 loop-preserved c = λ before row t w le.
     let a = c.loop.invariant before row t w le in
     adopting-one before _ t row _ _ _ _ c.loop-test.true le
-    (adopted _ _ _ _ _ _ a (left row _ _ c.loop-test.true le) _ c.unwrap-child.ensures _ c.pop-first.ensures.means _ _ c.join-first.ensures c.pop-first.ensures.answer)
+    (adopted _ _ _ _ _ _ a (left row _ _ c.loop-test.true le) _ c.unwrap-child.ensures _ c.pop-first.ensures.means _ _ c.join_first.ensures c.pop-first.ensures.answer)
 
 pub returns : goal.returns
 returns c = λ before row t w le.

@@ -4,11 +4,11 @@ use mathlib.Core.Logic.{∥∥₁_elim}
 use Rattle.rebuilding.proofs.Append.{report_there, known_row, row_made, pushed}
 use Rattle.rebuilding.proofs.build.append.Goals as goal
 
-pub row-of-requires : goal.row-of-requires
-row-of-requires c = ∥∥₁_elim c.requires (Bool-set _ _) (λ w. report_there _ _ _ _ _ _ w.1.1.1)
+pub row_of-requires : goal.row_of-requires
+row_of-requires c = ∥∥₁_elim c.requires (Bool-set _ _) (λ w. report_there _ _ _ _ _ _ w.1.1.1)
 
-pub returns-in-default : goal.returns-in-default
-returns-in-default c = λ before row t w. row_made before _ _ _ t _ row c.in-default.is w c.row-of.ensures
+pub returns-in_default : goal.returns-in_default
+returns-in_default c = λ before row t w. row_made before _ _ _ t _ row c.in_default.is w c.row_of.ensures
 
 pub push-requires : goal.push-requires
 push-requires c = record {

@@ -4,8 +4,8 @@ use Rattle.nodes.specs.Check.{node_at}
 use Rattle.rebuilding.proofs.Children.{counted_frame, counted_source}
 use Rattle.rebuilding.proofs.build.children_of.Goals as goal
 
-pub overflow-add-frames : goal.overflow-add-frames
-overflow-add-frames c = let f = c.loop-start.invariant.few in let l = c.loop-start.invariant.low in search rules
+pub overflow_add-frames : goal.overflow_add-frames
+overflow_add-frames c = let f = c.loop-start.invariant.few in let l = c.loop-start.invariant.low in search rules
 
 pub loop-start-preserved-then-not-nodes-start : goal.loop-start-preserved-then-not-nodes-start
 loop-start-preserved-then-not-nodes-start c =

@@ -4,8 +4,8 @@ use Rattle.table_host.proofs.table.mark_live.Goals as goal
 
 pub loop-error-preserved : goal.loop-error-preserved
 loop-error-preserved c =
-    marks_more c.args.records.now c.args.size (vec_items c.loop-error.live) _ _ c.loop-error.error _ _ c.lives-record-lives.result
-    c.loop-error.invariant c.min-error-end.ensures c.loop-error-test.true c.deref.ensures.value c.lives-record-lives.ensures c.in-ok-push.ensures.items
+    marks_more c.args.records.now c.args.size (vec_items c.loop-error.live) _ _ c.loop-error.error _ _ c.lives-record_lives.result
+    c.loop-error.invariant c.min-error-end.ensures c.loop-error-test.true c.deref.ensures.value c.lives-record_lives.ensures c.in_ok-push.ensures.items
 
 pub returns : goal.returns
 returns c =

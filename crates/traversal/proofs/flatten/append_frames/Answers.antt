@@ -9,25 +9,25 @@ loop-at-init c = λ f n room. listing_none c.args.order.now c.args.count c.told-
 
 below : (c : goal.After-visit·1) → c.loop-at.stop < length c.args.list.now
 below c = ∥∥₁_elim c.requires.next le_prop (λ w.
-    (listing_more c.args.order.now c.args.count c.told-order c.requires.within _ _ _ _ _ w.0 w.1 w.2 _ _ _ (c.loop-at.invariant w.0 w.1 w.2) c.loop-at-test.true (sym c.if-is-child.ensures)).below)
+    (listing_more c.args.order.now c.args.count c.told-order c.requires.within _ _ _ _ _ w.0 w.1 w.2 _ _ _ (c.loop-at.invariant w.0 w.1 w.2) c.loop-at-test.true (sym c.if-is_child.ensures)).below)
 
-pub offset-bounds-list-stop : goal.offset-bounds-list-stop
-offset-bounds-list-stop c = let h = below c in search rules
+pub offset_bounds-list-stop : goal.offset_bounds-list-stop
+offset_bounds-list-stop c = let h = below c in search rules
 
 pub bounds-list-stop : goal.bounds-list-stop
 bounds-list-stop c = let h = below c in let l = c.loop-at.auto.list in omega arith
 
-pub overflow-add-stop : goal.overflow-add-stop
-overflow-add-stop c = let h = below c in search rules
+pub overflow_add-stop : goal.overflow_add-stop
+overflow_add-stop c = let h = below c in search rules
 
 pub loop-at-preserved : goal.loop-at-preserved
 loop-at-preserved c = λ f n room.
-    (listing_more c.args.order.now c.args.count c.told-order c.requires.within _ _ _ _ _ f n room _ _ _ (c.loop-at.invariant f n room) c.loop-at-test.true (sym c.if-is-child.ensures)).listing
+    (listing_more c.args.order.now c.args.count c.told-order c.requires.within _ _ _ _ _ f n room _ _ _ (c.loop-at.invariant f n room) c.loop-at-test.true (sym c.if-is_child.ensures)).listing
 
-pub returns-else-is-child : goal.returns-else-is-child
-returns-else-is-child c = record {
+pub returns-else-is_child : goal.returns-else-is_child
+returns-else-is_child c = record {
   put = λ f n room.
-      listing_all c.args.order.now c.args.count c.told-order c.requires.within _ _ _ _ _ f n room _ _ _ (c.loop-at.invariant f n room) (λ lt. sym c.if-is-child.ensures);
+      listing_all c.args.order.now c.args.count c.told-order c.requires.within _ _ _ _ _ f n room _ _ _ (c.loop-at.invariant f n room) (λ lt. sym c.if-is_child.ensures);
 }
 
 pub returns-after-loop-at : goal.returns-after-loop-at

@@ -5,10 +5,10 @@ use Rattle.traversal.specs.Start.{blank_node}
 use Rattle.traversal.proofs.Lists.{source-none, source_some}
 use Rattle.traversal.proofs.flatten.append_source.Goals as goal
 
-pub returns-in-default : goal.returns-in-default
-returns-in-default g c =
+pub returns-in_default : goal.returns-in_default
+returns-in_default g c =
     let x = get_or c.args.list.now c.args.i blank_node in
-    source-none c.args.list.now c.args.start c.args.i x.place (error_source (g.H.Host.errors c.args.host.now) x.error) c.source_of_lem.result (c.source_of_lem.ensures ∙ ap (λ (n : ℕ). source_of (g.H.Host.errors c.args.host.now n)) c.number.ensures) c.in-default.is
+    source-none c.args.list.now c.args.start c.args.i x.place (error_source (g.H.Host.errors c.args.host.now) x.error) c.source_of_lem.result (c.source_of_lem.ensures ∙ ap (λ (n : ℕ). source_of (g.H.Host.errors c.args.host.now n)) c.number.ensures) c.in_default.is
 
 pub returns : goal.returns
 returns g c =

@@ -16,8 +16,8 @@ pub loop-i-init : goal.loop-i-init
 loop-i-init g c = λ t b.
     spread_none (g.H.Host.errors c.args.host.now) _ (g.met.H.Host.lawful c.args.host.now) _ _ c.told-order c.requires.within _ _ t (simp length-set at b) _ refl
 
-pub append-below-at-requires : goal.append-below-at-requires
-append-below-at-requires g c =
+pub append_below-at-requires : goal.append_below-at-requires
+append_below-at-requires g c =
     let h = g.H.Host.errors c.args.host.now in
     let law = g.met.H.Host.lawful c.args.host.now in
     record {
@@ -38,7 +38,7 @@ loop-i-preserved g c = λ t b.
     let few = order_few c.args.order.now c.args.count c.told-order c.requires.within in
     let s = c.loop-i.invariant t b in
     spread_more h _ law _ few _ _ _ b.fits _ _ _ s c.loop-i-test.true _ _
-    (c.append-below-at.ensures _ (waits h _ law _ few _ _ _ b.fits _ _ _ s c.loop-i-test.true c.loop-i.auto.list))
+    (c.append_below-at.ensures _ (waits h _ law _ few _ _ _ b.fits _ _ _ s c.loop-i-test.true c.loop-i.auto.list))
 
 pub returns : goal.returns
 returns g c = λ t b.

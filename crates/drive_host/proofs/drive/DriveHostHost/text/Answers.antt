@@ -5,6 +5,6 @@ use Rattle.drive_host.proofs.drive.DriveHostHost.text.Goals as goal
 pub returns : goal.returns
 returns c =
     record {
-      answered = c.fill-front.ensures.answered ∙ label_answered _ c.args.error c.in-ok-label.label c.args.part.now _ (search rules) c.in-ok-label.ensures;
-      filled = c.fill-front.ensures.filled ∙ label_filled _ c.args.error c.in-ok-label.label c.args.part.now _ (search rules) c.in-ok-label.ensures;
+      answered = c.fill_front.ensures.answered ∙ label_answered _ c.args.error c.in_ok-label.label c.args.part.now _ (search rules) c.in_ok-label.ensures;
+      filled = c.fill_front.ensures.filled ∙ label_filled _ c.args.error c.in_ok-label.label c.args.part.now _ (search rules) c.in_ok-label.ensures;
     }

@@ -3,8 +3,8 @@ use Rattle.layout.proofs.Free.{begun_from}
 use Rattle.layout.proofs.Calls.{full, free-below, within_free, some_free, begin_sound, begin_answer}
 use Rattle.frames.proofs.store.Frames.begin.Goals as goal
 
-pub returns-in-default : goal.returns-in-default
-returns-in-default c = record { kept = search rules; answer = (full c.args.self.now.sound c.in-default.is, search rules) }
+pub returns-in_default : goal.returns-in_default
+returns-in_default c = record { kept = search rules; answer = (full c.args.self.now.sound c.in_default.is, search rules) }
 
 pub bounds-self-i : goal.bounds-self-i
 bounds-self-i c = free-below c.args.self.now.sound c.in-Some.i c.in-Some.is c.args.error 0
@@ -15,11 +15,11 @@ bounds-self-i-2 c = free-below c.args.self.now.sound c.in-Some.i c.in-Some.is c.
 pub link-requires : goal.link-requires
 link-requires c = within_free c.args.self.now.sound c.in-Some.i c.in-Some.is c.args.error 0
 
-pub overflow-sub-self : goal.overflow-sub-self
-overflow-sub-self c = some_free c.args.self.now.sound c.in-Some.i c.in-Some.is c.args.error 0
+pub overflow_sub-self : goal.overflow_sub-self
+overflow_sub-self c = some_free c.args.self.now.sound c.in-Some.i c.in-Some.is c.args.error 0
 
-pub invariant-of-self : goal.invariant-of-self
-invariant-of-self c = (begin_sound c.args.self.now.sound c.in-Some.i c.in-Some.is c.args.error c.args.place _ _ (begun_from _ _ _ _ _ c.link.ensures) c.choose-self.ensures, tt)
+pub invariant_of-self : goal.invariant_of-self
+invariant_of-self c = (begin_sound c.args.self.now.sound c.in-Some.i c.in-Some.is c.args.error c.args.place _ _ (begun_from _ _ _ _ _ c.link.ensures) c.choose-self.ensures, tt)
 
 pub returns : goal.returns
 returns c = record {

@@ -10,13 +10,13 @@ pub assign-requires : goal.assign-requires
 assign-requires c = head_below c.args.self.now.sound c.args.head c.requires
 
 pub link-requires : goal.link-requires
-link-requires c = rw c.last-root.ensures (within_last_root c.args.self.now.sound c.args.head c.requires)
+link-requires c = rw c.last_root.ensures (within_last_root c.args.self.now.sound c.args.head c.requires)
 
-pub overflow-add-self : goal.overflow-add-self
-overflow-add-self c = let h = row_fits c.args.self.now.sound c.args.head c.requires in search rules
+pub overflow_add-self : goal.overflow_add-self
+overflow_add-self c = let h = row_fits c.args.self.now.sound c.args.head c.requires in search rules
 
-pub invariant-of-self : goal.invariant-of-self
-invariant-of-self c = (free_sound c.args.self.now.sound c.args.head c.requires _ _ (freed_from c.args.self.now.frames _ _ c.args.head _ _ c.assign.ensures c.link.ensures c.last-root.ensures) c.row-size.ensures, tt)
+pub invariant_of-self : goal.invariant_of-self
+invariant_of-self c = (free_sound c.args.self.now.sound c.args.head c.requires _ _ (freed_from c.args.self.now.frames _ _ c.args.head _ _ c.assign.ensures c.link.ensures c.last_root.ensures) c.row_size.ensures, tt)
 
 pub returns : goal.returns
-returns c = free_means c.args.self.now.sound c.args.head c.requires _ (freed_from c.args.self.now.frames _ _ c.args.head _ _ c.assign.ensures c.link.ensures c.last-root.ensures)
+returns c = free_means c.args.self.now.sound c.args.head c.requires _ (freed_from c.args.self.now.frames _ _ c.args.head _ _ c.assign.ensures c.link.ensures c.last_root.ensures)

@@ -8,14 +8,14 @@ bounds-self-x c = live_below c.args.self.now.sound c.args.x c.requires
 pub bounds-self-x-2 : goal.bounds-self-x-2
 bounds-self-x-2 c = live_below c.args.self.now.sound c.args.x c.requires
 
-pub overflow-sub-top : goal.overflow-sub-top
-overflow-sub-top c = some_size c.args.self.now.sound c.args.x c.requires
+pub overflow_sub-top : goal.overflow_sub-top
+overflow_sub-top c = some_size c.args.self.now.sound c.args.x c.requires
 
 pub assign-requires : goal.assign-requires
 assign-requires c = within_first c.args.self.now.sound c.args.x c.requires
 
-pub invariant-of-self : goal.invariant-of-self
-invariant-of-self c = (drain_sound c.args.self.now.sound c.args.x c.requires _ (drained_from _ _ _ _ c.assign.ensures c.row-role-role.ensures), tt)
+pub invariant_of-self : goal.invariant_of-self
+invariant_of-self c = (drain_sound c.args.self.now.sound c.args.x c.requires _ (drained_from _ _ _ _ c.assign.ensures c.row_role-role.ensures), tt)
 
 pub returns : goal.returns
-returns c = drain_answer c.args.self.now.sound c.args.x c.requires _ (drained_from _ _ _ _ c.assign.ensures c.row-role-role.ensures)
+returns c = drain_answer c.args.self.now.sound c.args.x c.requires _ (drained_from _ _ _ _ c.assign.ensures c.row_role-role.ensures)

@@ -15,19 +15,19 @@ assign-requires c = row_below c.args.self.now.sound c.args.x c.args.head c.requi
 pub link-requires : goal.link-requires
 link-requires c = within_kids c.args.self.now.sound c.args.x c.args.head c.requires.live c.requires.begun
 
-pub overflow-add-size : goal.overflow-add-size
-overflow-add-size c = let h = both_fit c.args.self.now.sound c.args.x c.args.head c.requires.live c.requires.begun in search rules
+pub overflow_add-size : goal.overflow_add-size
+overflow_add-size c = let h = both_fit c.args.self.now.sound c.args.x c.args.head c.requires.live c.requires.begun in search rules
 
 pub bounds-self-x-2 : goal.bounds-self-x-2
 bounds-self-x-2 c = live_below c.args.self.now.sound c.args.x c.requires.live
 
-pub invariant-of-self : goal.invariant-of-self
-invariant-of-self c = (
+pub invariant_of-self : goal.invariant_of-self
+invariant_of-self c = (
   join_sound c.args.self.now.sound c.args.x c.args.head c.requires.live c.requires.begun _
-      (joined_from _ _ _ _ _ _ _ _ c.assign.ensures c.link.ensures c.choose-first.ensures c.last-root.ensures c.row-size.ensures),
+      (joined_from _ _ _ _ _ _ _ _ c.assign.ensures c.link.ensures c.choose-first.ensures c.last_root.ensures c.row_size.ensures),
   tt,
 )
 
 pub returns : goal.returns
 returns c = join_means c.args.self.now.sound c.args.x c.args.head c.requires.live c.requires.begun _
-    (joined_from _ _ _ _ _ _ _ _ c.assign.ensures c.link.ensures c.choose-first.ensures c.last-root.ensures c.row-size.ensures)
+    (joined_from _ _ _ _ _ _ _ _ c.assign.ensures c.link.ensures c.choose-first.ensures c.last_root.ensures c.row_size.ensures)

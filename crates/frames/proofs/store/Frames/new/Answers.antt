@@ -8,8 +8,8 @@ loop-i-init c = below_none _ (search rules)
 pub loop-i-preserved : goal.loop-i-preserved
 loop-i-preserved c = below_more _ _ _ c.loop-i.invariant (omega arith)
 
-pub invariant-of-result : goal.invariant-of-result
-invariant-of-result c = (empty_sound _ _ c.loop-i.i c.loop-i.invariant (omega arith), tt)
+pub invariant_of-result : goal.invariant_of-result
+invariant_of-result c = (empty_sound _ _ c.loop-i.i c.loop-i.invariant (omega arith), tt)
 
 pub returns : goal.returns
 returns c = empty_means _ _ c.loop-i.i c.loop-i.invariant (omega arith)

@@ -9,16 +9,16 @@ bounds-self-head c = head_below c.args.self.now.sound c.args.head c.requires
 pub bounds-self-head-2 : goal.bounds-self-head-2
 bounds-self-head-2 c = head_below c.args.self.now.sound c.args.head c.requires
 
-pub overflow-sub-size : goal.overflow-sub-size
-overflow-sub-size c = let h = row_larger c.args.self.now.sound c.args.head c.requires in search rules
+pub overflow_sub-size : goal.overflow_sub-size
+overflow_sub-size c = let h = row_larger c.args.self.now.sound c.args.head c.requires in search rules
 
 pub assign-requires : goal.assign-requires
 assign-requires c = within_next c.args.self.now.sound c.args.head c.requires
 
-pub invariant-of-self : goal.invariant-of-self
-invariant-of-self c = (
+pub invariant_of-self : goal.invariant_of-self
+invariant_of-self c = (
   pop_sound c.args.self.now.sound c.args.head c.requires _
-      (popped_from _ _ _ _ _ _ c.assign.ensures c.row-role-role.ensures c.last-root.ensures c.row-size.ensures),
+      (popped_from _ _ _ _ _ _ c.assign.ensures c.row_role-role.ensures c.last_root.ensures c.row_size.ensures),
   tt,
 )
 
@@ -26,5 +26,5 @@ pub returns : goal.returns
 returns c = record {
   answer = pop_answer c.args.self.now.sound c.args.head c.requires;
   means = pop_means c.args.self.now.sound c.args.head c.requires _
-      (popped_from _ _ _ _ _ _ c.assign.ensures c.row-role-role.ensures c.last-root.ensures c.row-size.ensures);
+      (popped_from _ _ _ _ _ _ c.assign.ensures c.row_role-role.ensures c.last_root.ensures c.row_size.ensures);
 }

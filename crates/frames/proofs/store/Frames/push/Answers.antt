@@ -13,21 +13,21 @@ pub assign-requires : goal.assign-requires
 assign-requires c = live_below c.args.self.now.sound c.args.x c.requires.live
 
 pub link-requires : goal.link-requires
-link-requires c = rw c.last-root.ensures (within_row c.args.self.now.sound c.args.x c.args.head c.requires.live c.requires.begun)
+link-requires c = rw c.last_root.ensures (within_row c.args.self.now.sound c.args.x c.args.head c.requires.live c.requires.begun)
 
 pub assign-requires-2 : goal.assign-requires-2
 assign-requires-2 c = row_below c.args.self.now.sound c.args.x c.args.head c.requires.live c.requires.begun
 
-pub overflow-add-size : goal.overflow-add-size
-overflow-add-size c = let h = both_fit c.args.self.now.sound c.args.x c.args.head c.requires.live c.requires.begun in search rules
+pub overflow_add-size : goal.overflow_add-size
+overflow_add-size c = let h = both_fit c.args.self.now.sound c.args.x c.args.head c.requires.live c.requires.begun in search rules
 
-pub invariant-of-self : goal.invariant-of-self
-invariant-of-self c = (
+pub invariant_of-self : goal.invariant_of-self
+invariant_of-self c = (
   push_sound c.args.self.now.sound c.args.x c.args.head c.requires.live c.requires.begun _
-      (pushed_from _ _ _ _ _ _ _ _ c.assign.ensures c.link.ensures c.assign-2.ensures c.last-root.ensures c.row-size.ensures),
+      (pushed_from _ _ _ _ _ _ _ _ c.assign.ensures c.link.ensures c.assign-2.ensures c.last_root.ensures c.row_size.ensures),
   tt,
 )
 
 pub returns : goal.returns
 returns c = push_means c.args.self.now.sound c.args.x c.args.head c.requires.live c.requires.begun _
-    (pushed_from _ _ _ _ _ _ _ _ c.assign.ensures c.link.ensures c.assign-2.ensures c.last-root.ensures c.row-size.ensures)
+    (pushed_from _ _ _ _ _ _ _ _ c.assign.ensures c.link.ensures c.assign-2.ensures c.last_root.ensures c.row_size.ensures)

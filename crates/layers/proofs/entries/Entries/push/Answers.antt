@@ -2,8 +2,8 @@ use Rattle.std.proofs.Common.{◌<◌, length, rules}
 use Rattle.layers.specs.EntryLaws.{falling_more, ending_more, sourced_more}
 use Rattle.layers.proofs.entries.Entries.push.Goals as goal
 
-pub invariant-of-self : goal.invariant-of-self
-invariant-of-self c =
+pub invariant_of-self : goal.invariant_of-self
+invariant_of-self c =
     let was = c.args.self.now in
     let room : was.count < length was.items = search rules in (
       search rules,

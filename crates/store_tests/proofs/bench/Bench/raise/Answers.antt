@@ -6,8 +6,8 @@ use Rattle.store.specs.declared.token.Exn.{Exn}
 use Rattle.store_tests.proofs.Over.{number_stays, report_kept, basket_stays}
 use Rattle.store_tests.proofs.bench.Bench.raise.Goals as goal
 
-pub invariant-of-self-in-Ok : goal.invariant-of-self-in-Ok
-invariant-of-self-in-Ok c =
+pub invariant_of-self-in-Ok : goal.invariant_of-self-in-Ok
+invariant_of-self-in-Ok c =
     let was = c.args.self.now in
     let s : Store = was.store in
     let t : Store = c.raise.new.store in

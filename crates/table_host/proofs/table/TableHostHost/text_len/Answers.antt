@@ -4,5 +4,5 @@ use Rattle.table_host.proofs.table.TableHostHost.text_len.Goals as goal
 
 pub returns : goal.returns
 returns c =
-    let told = c.in-ok-record.ensures in
-    length-told (vec_items c.args.self.now.records) (vec_items c.args.self.now.bytes) c.args.error c.in-ok-record.field-0 told.0 told.1
+    let told = c.in_ok-record.ensures in
+    length-told (vec_items c.args.self.now.records) (vec_items c.args.self.now.bytes) c.args.error c.in_ok-record.field-0 told.0 told.1
