@@ -10,8 +10,8 @@ loop-node-preserved c =
     let i = c.loop-node.node-index in
     let rest : ℕ → ℕ = λ n. n + explicit_count (drop (i + 1) nodes) in
     elim c.if-not-node.branch [
-      | then-not-node w ↦ (omega (arith, w.count_is), ap rest w.count_is ∙ explicit-frame nodes i c.loop-node.count _ c.loop-node.invariant.1 c.loop-node-test.true w.if-not-node.true)
-      | else-not-node w ↦ (omega (arith, w.count_is), ap rest w.count_is ∙ explicit-source nodes i c.loop-node.count _ c.loop-node.invariant.1 c.loop-node-test.true w.if-not-node.false)
+      | then-not-node w ↦ (omega (arith, w.count-is), ap rest w.count-is ∙ explicit-frame nodes i c.loop-node.count _ c.loop-node.invariant.1 c.loop-node-test.true w.if-not-node.true)
+      | else-not-node w ↦ (omega (arith, w.count-is), ap rest w.count-is ∙ explicit-source nodes i c.loop-node.count _ c.loop-node.invariant.1 c.loop-node-test.true w.if-not-node.false)
     ]
 
 pub returns : goal.returns

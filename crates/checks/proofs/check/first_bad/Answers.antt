@@ -2,16 +2,16 @@ use Rattle.std.proofs.Common.{◌<◌, length, sym, ◌∙◌, inl, inr, arith}
 use Rattle.std.proofs.lemmas.Bool.{eqb-true, eqb-false, both_ways}
 use Rattle.nodes.proofs.Checking.{conclusions_first, conclusions_more, bad_empty, bad_root}
 use Rattle.checks.proofs.check.first_bad.Goals as goal
-use Rattle.checks.proofs.check.first_bad.Goals.{then-node, else-node, then-is-empty-via-then-is-empty, then-is-empty-via-else-is-empty+then-not-is-root}
+use Rattle.checks.proofs.check.first_bad.Goals.{then-node, else-node, then-is_empty-via-then-is_empty, then-is_empty-via-else-is_empty+then-not-is_root}
 
 pub returns-then-is_empty : goal.returns-then-is_empty
 returns-then-is_empty g c =
     let host = c.args.host.now in
     let nodes = c.args.nodes.now in
     elim c.then-is_empty.branch [
-      | then-is-empty-via-then-is-empty w ↦
+      | then-is_empty-via-then-is_empty w ↦
           bad_empty (g.H.Host.errors host) nodes (g.H.Host.extent host) (g.met.H.Host.lawful host) (eqb-true (length nodes) 0 (sym c.is_empty.ensures ∙ w.if-is_empty.true))
-      | then-is-empty-via-else-is-empty+then-not-is-root w ↦
+      | then-is_empty-via-else-is_empty+then-not-is_root w ↦
           let some = eqb-false (length nodes) 0 (sym c.is_empty.ensures ∙ w.if-is_empty.false) in
           let low : 0 < length nodes = omega arith in
           bad_root (g.H.Host.errors host) nodes (g.H.Host.extent host) (g.met.H.Host.lawful host) low
