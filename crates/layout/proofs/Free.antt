@@ -149,7 +149,7 @@ module _ {fs : List Frame} {head : Option ℕ} {count i : ℕ} {live : List Bloc
         below = free-below;
         fresh = record { report = (told l i).0 ∙ (absent live i z).0; row = λ h. ap (λ (u : Option Listing). among i (list_of u)) (told l h).1 ∙ not_among live i h z };
         means = record {
-          reports = λ j. (told begun_laid j).0 ∙ added (eqb j i) _ _ _ _ refl (sym (told l j).0);
+          reports = λ j. (told begun_laid j).0 ∙ added j i _ _ _ _ refl (sym (told l j).0);
           rows = λ j. (told begun_laid j).1 ∙ sym (told l j).1;
         };
       }

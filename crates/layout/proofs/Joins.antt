@@ -122,7 +122,7 @@ module _ {fs : List Frame} {head : Option ℕ} {count x y : ℕ} {e : FrameError
       ap (λ (c : Forest). Some (record { error = e; place = p; children = c })) (shape_beside k (node y f q m r) ∙ ap (λ (c : Forest). shape k then c) (sym (forest-listing (node y f q m r))))
       ∙ sym (ap₂ under x_is y_is) in
       record {
-        reports = λ j. (told a j).0 ∙ covered (eqb j x) _ _ _ _ _ tree_is (told l j).0;
+        reports = λ j. (told a j).0 ∙ covered j x _ _ _ _ _ tree_is (told l j).0;
         rows = λ j. (told a j).1 ∙ gone j y _ _ _ (λ w. subst (λ (z : ℕ). row_at z rest ≡ None) (sym w) none_y) (told l j).1;
       }
 
@@ -188,7 +188,7 @@ module _ {fs : List Frame} {head : Option ℕ} {count x y : ℕ} {e : FrameError
       ap (λ (z : Listing). Some ((y, tree_of f q m) ∷ z)) (listing_beside r (node x e p k none)) ∙ sym (ap₂ (λ (u : Option Listing) (t : Option Tree). joined u (alone x t)) y_is x_is) in
       record {
         reports = λ j. (told a j).0 ∙ gone j x _ _ _ (λ w. subst (λ (z : ℕ). report_at z rest ≡ None) (sym w) none_x) (told l j).0;
-        rows = λ j. (told a j).1 ∙ covered (eqb j y) _ _ _ _ _ row_is (told l j).1;
+        rows = λ j. (told a j).1 ∙ covered j y _ _ _ _ _ row_is (told l j).1;
       }
 
   pushed_size : row_size (get_or fs y blank).role + (get_or fs x blank).size ≡ size (node y f q m r) + (size k + 1)

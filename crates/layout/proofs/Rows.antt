@@ -50,5 +50,5 @@ module _ {fs : List Frame} {head : Option ℕ} {count x : ℕ} {e : FrameError} 
       let m = rowed_layout n q in
       record {
         reports = λ j. (told m j).0 ∙ gone j x _ _ _ (λ w. subst (λ (y : ℕ). report_at y rest ≡ None) (sym w) (first_once l x refl).0) (told l j).0;
-        rows = λ j. (told m j).1 ∙ added (eqb j x) _ _ _ _ (sym (ap (alone x) report_is)) (sym (told l j).1);
+        rows = λ j. (told m j).1 ∙ added j x _ _ _ _ (sym (ap (alone x) report_is)) (sym (told l j).1);
       }

@@ -15,7 +15,7 @@ use Rattle.layout.specs.Reports.{reports, rows, Means}
 use Rattle.layout.specs.Calls.{first_of, rest_of, opened, bare, children_of, Fresh, taken, Drained}
 use Rattle.layout.proofs.Held.{held_set, held-changed, stand_set, held_role, length-changed, off_head, within_last, within_head, tally_past}
 use Rattle.layout.proofs.Told.{told, absent}
-use Rattle.layout.proofs.Means.{covered, gone, added, found, first_below, first_once}
+use Rattle.layout.proofs.Means.{covered, gone, added, found, turned, first_below, first_once}
 
 -- a forest as a row, if it has any tree
 abbrev pub rowed : Numbered → List Block → List Block
@@ -36,7 +36,7 @@ reports_rowed j (node i e p k r) bs = refl
 
 rows_rowed : (h : ℕ → Option Listing) (j : ℕ) (k : Numbered) (bs : List Block) → ((i : ℕ) → row_at i bs ≡ h i) → row_at j (rowed k bs) ≡ opened h (listing k) j
 rows_rowed h j none bs e = e j
-rows_rowed h j (node i a p k r) bs e = ap (λ (x : Option Listing). cond (eqb j i) (Some (listing (node i a p k r))) x) (e j)
+rows_rowed h j (node i a p k r) bs e = ap (λ (x : Option Listing). cond (eqb j i) (Some (listing (node i a p k r))) x) (e j) ∙ turned j i _ (h j)
 
 first_listing : (k : Numbered) → head_of k ≡ first_root (listing k)
 first_listing none = refl
@@ -89,7 +89,7 @@ split_layout {fs} {rest = rest} {free = free} l x e p k out q hk ho same many =
 
 opened_same : (g h : ℕ → Option Listing) (x : Listing) (j : ℕ) → ((i : ℕ) → g i ≡ h i) → opened g x j ≡ opened h x j
 opened_same g h [] j e = e j
-opened_same g h (y ∷ ys) j e = ap (λ (z : Option Listing). cond (eqb j y.0) (Some (y ∷ ys)) z) (e j)
+opened_same g h (y ∷ ys) j e = ap (λ (z : Option Listing). cond (eqb y.0 j) (Some (y ∷ ys)) z) (e j)
 
 -- a number of no block is no root in a row
 pub not_among : (bs : List Block) (n h : ℕ) → tallies n bs ≡ 0 → among n (list_of (row_at h bs)) ≡ false
@@ -154,7 +154,7 @@ module _ {fs : List Frame} {head : Option ℕ} {count x : ℕ} {e : FrameError} 
       let m = popped_layout in
       let n = first_once l x refl in
       record {
-        reports = λ j. (told m j).0 ∙ added (eqb j x) _ _ _ _ (sym (ap first_of row_is)) (reports_rowed j r rest ∙ sym (told l j).0);
+        reports = λ j. (told m j).0 ∙ added j x _ _ _ _ (sym (ap first_of row_is)) (reports_rowed j r rest ∙ sym (told l j).0);
         rows = λ j. (told m j).1
             ∙ rows_rowed (update eqb (rows fs) x None) j r rest (λ i. gone i x _ _ _ (λ w. subst (λ (y : ℕ). row_at y rest ≡ None) (sym w) n.1) (told l i).1)
             ∙ ap (λ (z : Option Listing). opened (update eqb (rows fs) x None) (rest_of z) j) (sym row_is);
@@ -229,7 +229,7 @@ module _ {fs : List Frame} {head : Option ℕ} {count x : ℕ} {e : FrameError} 
     fresh = λ n a. children_fresh n (sym (ap (among n) row_of_children) ∙ a);
     means = record {
       reports = λ j. (told drained_laid j).0 ∙ ap (λ (z : Option Tree). cond (eqb j x) (Some (leaf e p)) z) (reports_rowed j k rest)
-          ∙ covered (eqb j x) _ _ _ _ _ (sym (ap bare top_is)) (told l j).0;
+          ∙ covered j x _ _ _ _ _ (sym (ap bare top_is)) (told l j).0;
       rows = λ j. (told drained_laid j).1 ∙ rows_rowed (rows fs) j k rest (λ i. sym (told l i).1) ∙ ap (λ (z : Listing). opened (rows fs) z j) (sym row_of_children);
     };
   })

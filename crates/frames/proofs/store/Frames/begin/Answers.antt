@@ -19,7 +19,7 @@ pub overflow_sub-self : goal.overflow_sub-self
 overflow_sub-self c = some_free c.args.self.now.sound c.in-Some.i c.in-Some.is c.args.error 0
 
 pub invariant_of-self : goal.invariant_of-self
-invariant_of-self c = (begin_sound c.args.self.now.sound c.in-Some.i c.in-Some.is c.args.error c.args.place _ _ (begun_from _ _ _ _ _ c.link.ensures) c.choose-self.ensures, tt)
+invariant_of-self c = record { sound = begin_sound c.args.self.now.sound c.in-Some.i c.in-Some.is c.args.error c.args.place _ _ (begun_from _ _ _ _ _ c.link.ensures) c.choose-self.ensures }
 
 pub returns : goal.returns
 returns c = record {

@@ -16,7 +16,7 @@ pub overflow_add-self : goal.overflow_add-self
 overflow_add-self c = let h = row_fits c.args.self.now.sound c.args.head c.requires in search rules
 
 pub invariant_of-self : goal.invariant_of-self
-invariant_of-self c = (free_sound c.args.self.now.sound c.args.head c.requires _ _ (freed_from c.args.self.now.frames _ _ c.args.head _ _ c.assign.ensures c.link.ensures c.last_root.ensures) c.row_size.ensures, tt)
+invariant_of-self c = record { sound = free_sound c.args.self.now.sound c.args.head c.requires _ _ (freed_from c.args.self.now.frames _ _ c.args.head _ _ c.assign.ensures c.link.ensures c.last_root.ensures) c.row_size.ensures }
 
 pub returns : goal.returns
 returns c = free_means c.args.self.now.sound c.args.head c.requires _ (freed_from c.args.self.now.frames _ _ c.args.head _ _ c.assign.ensures c.link.ensures c.last_root.ensures)

@@ -15,7 +15,7 @@ pub assign-requires : goal.assign-requires
 assign-requires c = within_first c.args.self.now.sound c.args.x c.requires
 
 pub invariant_of-self : goal.invariant_of-self
-invariant_of-self c = (drain_sound c.args.self.now.sound c.args.x c.requires _ (drained_from _ _ _ _ c.assign.ensures c.row_role-role.ensures), tt)
+invariant_of-self c = record { sound = drain_sound c.args.self.now.sound c.args.x c.requires _ (drained_from _ _ _ _ c.assign.ensures c.row_role-role.ensures) }
 
 pub returns : goal.returns
 returns c = drain_answer c.args.self.now.sound c.args.x c.requires _ (drained_from _ _ _ _ c.assign.ensures c.row_role-role.ensures)

@@ -22,11 +22,10 @@ pub bounds-self-x-2 : goal.bounds-self-x-2
 bounds-self-x-2 c = live_below c.args.self.now.sound c.args.x c.requires.live
 
 pub invariant_of-self : goal.invariant_of-self
-invariant_of-self c = (
-  join_sound c.args.self.now.sound c.args.x c.args.head c.requires.live c.requires.begun _
-      (joined_from _ _ _ _ _ _ _ _ c.assign.ensures c.link.ensures c.choose-first.ensures c.last_root.ensures c.row_size.ensures),
-  tt,
-)
+invariant_of-self c = record {
+  sound = join_sound c.args.self.now.sound c.args.x c.args.head c.requires.live c.requires.begun _
+      (joined_from _ _ _ _ _ _ _ _ c.assign.ensures c.link.ensures c.choose-first.ensures c.last_root.ensures c.row_size.ensures);
+}
 
 pub returns : goal.returns
 returns c = join_means c.args.self.now.sound c.args.x c.args.head c.requires.live c.requires.begun _

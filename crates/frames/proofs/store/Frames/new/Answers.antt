@@ -9,7 +9,7 @@ pub loop-i-preserved : goal.loop-i-preserved
 loop-i-preserved c = below_more _ _ _ c.loop-i.invariant (omega arith)
 
 pub invariant_of-result : goal.invariant_of-result
-invariant_of-result c = (empty_sound _ _ c.loop-i.i c.loop-i.invariant (omega arith), tt)
+invariant_of-result c = record { sound = empty_sound _ _ c.loop-i.i c.loop-i.invariant (omega arith) }
 
 pub returns : goal.returns
 returns c = empty_means _ _ c.loop-i.i c.loop-i.invariant (omega arith)

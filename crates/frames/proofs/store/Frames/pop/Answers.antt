@@ -16,11 +16,10 @@ pub assign-requires : goal.assign-requires
 assign-requires c = within_next c.args.self.now.sound c.args.head c.requires
 
 pub invariant_of-self : goal.invariant_of-self
-invariant_of-self c = (
-  pop_sound c.args.self.now.sound c.args.head c.requires _
-      (popped_from _ _ _ _ _ _ c.assign.ensures c.row_role-role.ensures c.last_root.ensures c.row_size.ensures),
-  tt,
-)
+invariant_of-self c = record {
+  sound = pop_sound c.args.self.now.sound c.args.head c.requires _
+      (popped_from _ _ _ _ _ _ c.assign.ensures c.row_role-role.ensures c.last_root.ensures c.row_size.ensures);
+}
 
 pub returns : goal.returns
 returns c = record {

@@ -22,11 +22,10 @@ pub overflow_add-size : goal.overflow_add-size
 overflow_add-size c = let h = both_fit c.args.self.now.sound c.args.x c.args.head c.requires.live c.requires.begun in search rules
 
 pub invariant_of-self : goal.invariant_of-self
-invariant_of-self c = (
-  push_sound c.args.self.now.sound c.args.x c.args.head c.requires.live c.requires.begun _
-      (pushed_from _ _ _ _ _ _ _ _ c.assign.ensures c.link.ensures c.assign-2.ensures c.last_root.ensures c.row_size.ensures),
-  tt,
-)
+invariant_of-self c = record {
+  sound = push_sound c.args.self.now.sound c.args.x c.args.head c.requires.live c.requires.begun _
+      (pushed_from _ _ _ _ _ _ _ _ c.assign.ensures c.link.ensures c.assign-2.ensures c.last_root.ensures c.row_size.ensures);
+}
 
 pub returns : goal.returns
 returns c = push_means c.args.self.now.sound c.args.x c.args.head c.requires.live c.requires.begun _

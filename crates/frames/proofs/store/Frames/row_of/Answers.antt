@@ -8,7 +8,7 @@ pub assign-requires : goal.assign-requires
 assign-requires c = live_below c.args.self.now.sound c.args.x c.requires
 
 pub invariant_of-self : goal.invariant_of-self
-invariant_of-self c = (rw c.assign.ensures (row_of_sound c.args.self.now.sound c.args.x c.requires), tt)
+invariant_of-self c = record { sound = rw c.assign.ensures (row_of_sound c.args.self.now.sound c.args.x c.requires) }
 
 pub returns : goal.returns
 returns c = rw c.assign.ensures (row_of_means c.args.self.now.sound c.args.x c.requires)
