@@ -37,7 +37,7 @@ module _ (before fs after : List Frame) (x : ℕ) (t : Tree) where
       new = new_last before fs head [] x t w;
       means = record {
         reports = λ j. m.reports j ∙ without before fs head [] x t w j;
-        rows = λ j. m.rows j ∙ ap₂ (λ (a b : Option Listing). cond (eqb j x) a b) (ap (alone x) (report_is before fs head [] x t w)) (w.means.rows j);
+        rows = λ j. m.rows j ∙ ap₂ (λ (a b : Option Listing). cond (eqb x j) a b) (ap (alone x) (report_is before fs head [] x t w)) (w.means.rows j);
       };
     };
   }
@@ -106,7 +106,7 @@ module _ (before fs after : List Frame) (e : FrameError) (p n : ℕ) (b : Begun 
     root = record { below = b.below; fresh = record { report = sym (w.means.reports n) ∙ b.fresh.report; row = earlier row w.new w.means.rows } };
     apart = apart_row row w.means.rows;
     means = record {
-      reports = λ j. b.means.reports j ∙ ap (λ (o : Option Tree). cond (eqb j n) (Some (leaf e p)) o) (w.means.reports j);
+      reports = λ j. b.means.reports j ∙ ap (λ (o : Option Tree). cond (eqb n j) (Some (leaf e p)) o) (w.means.reports j);
       rows = λ j. b.means.rows j ∙ w.means.rows j;
     };
   }
@@ -121,7 +121,7 @@ module _ (before fs after : List Frame) (t : Tree) (x : ℕ) (w : WithRow before
         below = new.below;
         fresh = new.fresh;
         means = record {
-          reports = λ j. out.reports j ∙ ap (λ (o : Option Tree). cond (eqb j x) (Some t) o) (w.means.reports j);
+          reports = λ j. out.reports j ∙ ap (λ (o : Option Tree). cond (eqb x j) (Some t) o) (w.means.reports j);
           rows = out.rows;
         };
       }

@@ -112,7 +112,7 @@ module _ (before : List Frame) (x : ℕ × Tree) (xs : Listing) (new : (n : ℕ)
       where
         go : (ys : Listing) → ((j : ℕ) → update eqb (rows fs) x.0 None j ≡ rows before j) → (j : ℕ) → opened (update eqb (rows fs) x.0 None) ys j ≡ opened (rows before) ys j
         go [] c j = c j
-        go (y ∷ ys) c j = ap (λ (o : Option Listing). cond (eqb j y.0) (Some (y ∷ ys)) o) (c j)
+        go (y ∷ ys) c j = ap (λ (o : Option Listing). cond (eqb y.0 j) (Some (y ∷ ys)) o) (c j)
 
     pub popped : Means after (update eqb (reports fs) x.0 (first_of (rows fs x.0))) (opened (update eqb (rows fs) x.0 None) (rest_of (rows fs x.0)))
         → Means after (update eqb (reports fs) x.0 (Some x.1)) (opened (rows before) xs)

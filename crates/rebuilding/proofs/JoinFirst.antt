@@ -57,7 +57,7 @@ module _ (before mid after last : List Frame) (x y : ℕ) (live : is_some (repor
     other k n =
         m.reports k ∙ update_apart (reports after) x _ k n
         ∙ j.reports k ∙ update_apart (update eqb (reports mid) y None) x _ k n
-        ∙ ap (λ (o : Option Tree). cond (eqb k y) None o) (drained_other k n)
+        ∙ ap (λ (o : Option Tree). cond (eqb y k) None o) (drained_other k n)
 
     is_row : (k : ℕ) → rows after k ≡ update eqb (rows before) head (Some row.0) k
     is_row k = j.rows k ∙ d.means.rows k ∙ go row.0 (ap (λ (r : Listing). opened (rows before) r k) listed) (d.first ∙ ap first_root listed)

@@ -7,7 +7,7 @@ use Rattle.traversal.proofs.flatten.append_frames.Goals as goal
 pub loop-at-init : goal.loop-at-init
 loop-at-init c = λ f n room. listing_none c.args.order.now c.args.count c.told-order c.requires.within _ _ _ _ _ f n room
 
-below : (c : goal.After-visit·1) → c.loop-at.stop < length c.args.list.now
+below : (c : goal.After-visit-1) → c.loop-at.stop < length c.args.list.now
 below c = ∥∥₁_elim c.requires.next le_prop (λ w.
     (listing_more c.args.order.now c.args.count c.told-order c.requires.within _ _ _ _ _ w.0 w.1 w.2 _ _ _ (c.loop-at.invariant w.0 w.1 w.2) c.loop-at-test.true (sym c.if-is_child.ensures)).below)
 

@@ -8,9 +8,9 @@ use Rattle.traversal.proofs.flatten.append_source.Goals as goal
 pub returns-in_default : goal.returns-in_default
 returns-in_default g c =
     let x = get_or c.args.list.now c.args.i blank_node in
-    source-none c.args.list.now c.args.start c.args.i x.place (error_source (g.H.Host.errors c.args.host.now) x.error) c.source_of_lem.result (c.source_of_lem.ensures ∙ ap (λ (n : ℕ). source_of (g.H.Host.errors c.args.host.now n)) c.number.ensures) c.in_default.is
+    source-none c.args.list.now c.args.start c.args.i x.place (error_source (g.H.Host.errors c.args.host.now) x.error) c.source_of.result (c.source_of.ensures ∙ ap (λ (n : ℕ). source_of (g.H.Host.errors c.args.host.now n)) c.number.ensures) c.in_default.is
 
 pub returns : goal.returns
 returns g c =
     let x = get_or c.args.list.now c.args.i blank_node in
-    source_some c.args.list.now c.args.start c.args.i x.place (error_source (g.H.Host.errors c.args.host.now) x.error) c.source_of_lem.result c.in-Some.source (c.source_of_lem.ensures ∙ ap (λ (n : ℕ). source_of (g.H.Host.errors c.args.host.now n)) c.number.ensures) c.in-Some.is c.requires.room
+    source_some c.args.list.now c.args.start c.args.i x.place (error_source (g.H.Host.errors c.args.host.now) x.error) c.source_of.result c.in-Some.source (c.source_of.ensures ∙ ap (λ (n : ℕ). source_of (g.H.Host.errors c.args.host.now n)) c.number.ensures) c.in-Some.is c.requires.room
