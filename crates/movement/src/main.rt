@@ -3,6 +3,7 @@
 #![tactic(auto)]
 
 use crate::log::Log;
+use anyhow::anyhow;
 use drive_host::drive::DriveHost;
 
 mod build;
@@ -37,8 +38,8 @@ fn yes_or_no(answer: bool) -> &'static str {
 
 fn fault_text(fault: HostFault) -> anyhow::Error {
     match fault {
-        HostFault::NotLive(_) => "the drive has no error of this number".into(),
-        HostFault::TextTooLong(_) => "a text is too long".into(),
+        HostFault::NotLive(_) => anyhow!("the drive has no error of this number"),
+        HostFault::TextTooLong(_) => anyhow!("a text is too long"),
     }
 }
 

@@ -19,7 +19,7 @@ returns-then-list-n g c =
     let f = subst (λ (xs : List Node). Flat h xs) (front_part _ _ _ n) c.in_default.ensures in
     let l = front_length _ _ _ n in
     let s = c.if-list-n.true in
-    (record { tree = f.0; flattens = f.1; goal = sym l; short = omega arith }, refl)
+    (record { tree = f.0; flattens = f.1; need = sym l; short = omega arith }, refl)
 
 pub returns : goal.returns
 returns g c =

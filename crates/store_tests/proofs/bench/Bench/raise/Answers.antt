@@ -16,7 +16,9 @@ invariant_of-self-in-Ok c =
     let e = c.args.error in
     let p = c.args.place in
     let v : report_held s x ≡ true = search rules in
-    let g = subst (λ r. Raised s t drive_errors x e p r) c.in-Ok.is c.raise.ensures in (
-      number_stays s t drive_errors x e p y g ∙ was.known,
-      (report_kept s t drive_errors x e p y g v, (basket_stays s t drive_errors x e p y g was.basket was.basket_live, tt)),
-    )
+    let g = subst (λ r. Raised s t drive_errors x e p r) c.in-Ok.is c.raise.ensures in
+    record {
+      known = number_stays s t drive_errors x e p y g ∙ was.known;
+      report_live = report_kept s t drive_errors x e p y g v;
+      basket_live = basket_stays s t drive_errors x e p y g was.basket was.basket_live;
+    }
