@@ -1,11 +1,11 @@
-ghost use Rattle.std.specs.Prelude.{◌≡◌, ℕ, ◌+◌, ◌<◌, ◌≤◌, ◌++◌, length, take};
+ghost use Rattle.std.specs.Prelude.{◌≡◌, ℕ, ◌+◌, ◌<◌, ◌≤◌, ◌++◌, length, take, Err};
 ghost use Rattle.drive_host.specs.Drive.{decimal, drive_errors};
 ghost use Rattle.drive_host.specs.Label.{Spelled, Labelled};
 ghost use Rattle.drive_host.specs.DriveLaws.{drive_lawful};
+ghost use Rattle.vocabulary.specs.declared.fault.LayerFault.TheVariants.{Full};
 
 use host::host::{GrowingHost, Host};
 use host::text::fill_front;
-use std::convert::Infallible;
 use vocabulary::fault::{HostFault, LayerFault};
 use vocabulary::io_kind::IoKind;
 use vocabulary::kind::Kind;
@@ -101,11 +101,14 @@ impl Host for DriveHost {
     }
 }
 
-// The drive host gains no errors: no value says what to add.
+// The drive host gains no errors: it has no room for any, and an addition says nothing.
 impl GrowingHost for DriveHost {
-    type Addition = Infallible;
+    type Addition = ();
 
-    fn add(&mut self, addition: Infallible) -> Result<u16, LayerFault> {
-        match addition {}
+    fn add(&mut self, _addition: ()) -> Result<u16, LayerFault>
+        ensures unchanged { self.new ≡ self.old }
+        ensures refused { result ≡ Err (Full 0) }
+    {
+        Err(LayerFault::Full(0))
     }
 }

@@ -1,12 +1,12 @@
 ghost use Rattle.std.specs.Prelude.{◌≡◌, ℕ, Bool, false, ◌&&◌, length, get_or, IfOk, Ok, Err, vec_len, slice_index_or};
 ghost use Rattle.table_host.specs.Table.{live as live_in, record_fits, source_live, table_errors, table_span, RecordRead};
 ghost use Rattle.table_host.specs.TableLaws.{table_lawful};
+ghost use Rattle.vocabulary.specs.declared.fault.LayerFault.TheVariants.{Full};
 
 use crate::record::Record;
 use host::host::{GrowingHost, Host};
 use host::text::fill_front;
 use std::alloc::{AllocError, AllocFailed, Global};
-use std::convert::Infallible;
 use vocabulary::fault::{HostFault, LayerFault};
 use vocabulary::kind::Kind;
 
@@ -155,11 +155,14 @@ impl Host for TableHost {
     }
 }
 
-// The table host gains no errors: no value says what to add.
+// The table host gains no errors: it has no room for any, and an addition says nothing.
 impl GrowingHost for TableHost {
-    type Addition = Infallible;
+    type Addition = ();
 
-    fn add(&mut self, addition: Infallible) -> Result<u16, LayerFault> {
-        match addition {}
+    fn add(&mut self, _addition: ()) -> Result<u16, LayerFault>
+        ensures unchanged { self.new ≡ self.old }
+        ensures refused { result ≡ Err (Full 0) }
+    {
+        Err(LayerFault::Full(0))
     }
 }
