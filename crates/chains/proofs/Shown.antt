@@ -1,11 +1,9 @@
 -- The errors of a report, and of a chain.
-use Rattle.std.proofs.Common.{◌≡◌, ℕ, ◌-◌, ◌<◌, ◌≤◌, List, ◌++◌, map, length, take, drop, replicate, sym, refl, ap, ◌∙◌, subst, ap₂}
+use Rattle.std.proofs.Common.{◌≡◌, ℕ, ◌-◌, List, ◌++◌, map, length, take, drop, replicate, sym, ap, ◌∙◌, ap₂}
 use Rattle.std.proofs.lemmas.List.{drop_at, take_at}
-use Rattle.vocabulary.specs.declared.frame_error.FrameError.{FrameError}
 use Rattle.model.specs.Host.{Errors}
 use Rattle.trees.specs.Trees.{Tree}
 use Rattle.nodes.specs.declared.node.Node.{Node}
-use Rattle.nodes.specs.Begins.{Flattens}
 use Rattle.nodes.specs.Flattening.{flattening}
 use Rattle.readings.specs.Readings.{errors_of}
 use Rattle.chains.specs.Errors.{error_node, errors_in, shown, unmarked, zero_node}

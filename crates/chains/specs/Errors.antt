@@ -1,5 +1,5 @@
 -- The errors of nodes that are no markers, put into a list.
-use Rattle.std.specs.Prelude.{ℕ, ◌-◌, false, cond, List, [], ◌∷◌, ◌++◌, map, length, take, drop, replicate, None}
+use Rattle.std.specs.Prelude.{ℕ, ◌-◌, false, cond, List, [], ◌∷◌, ◌++◌, map, length, drop, replicate, None}
 use Rattle.vocabulary.specs.declared.frame_error.FrameError.{FrameError}
 use Rattle.vocabulary.specs.declared.frame_error.FrameError.TheVariants.{Host}
 use Rattle.model.specs.Host.{Errors}

@@ -1,10 +1,9 @@
 -- A word and a number behind it, and what the drive host answers with it.
-use Rattle.std.proofs.Common.{◌≡◌, ℕ, ◌+◌, ◌/◌, ◌%◌, ◌<◌, ◌≤◌, Bool, true, false, cond, ltb, leb, List, [], ◌∷◌, ◌++◌, length, take, drop, set, Some, None, Ok, Err, Option, Result, sym, refl, ap, ◌∙◌, subst, append_assoc, arith, length-set, length-take, le-ltb, lt-ltb}
+use Rattle.std.proofs.Common.{◌≡◌, ℕ, ◌+◌, ◌/◌, ◌%◌, ◌<◌, ◌≤◌, true, false, cond, ltb, leb, List, [], ◌∷◌, ◌++◌, length, take, drop, set, Some, None, Ok, Err, Option, sym, ap, ◌∙◌, append_assoc, arith, length-set, length-take, le-ltb, lt-ltb}
 use Rattle.std.proofs.lemmas.List.{take_more_set}
 use Rattle.std.proofs.lemmas.Bool.{cond-true, cond-false}
-use Rattle.vocabulary.specs.declared.fault.HostFault.{HostFault}
-use Rattle.vocabulary.specs.declared.fault.HostFault.TheVariants.{NotLive, TextTooLong}
-use Rattle.model.specs.Host.{Error, answer, text_answer, text_filled}
+use Rattle.vocabulary.specs.declared.fault.HostFault.TheVariants.{TextTooLong}
+use Rattle.model.specs.Host.{Error, text_answer, text_filled}
 use Rattle.drive_host.specs.Drive.{decimal}
 use Rattle.drive_host.specs.Label.{Spelled, Labelled}
 use Rattle.drive_host.specs.declared.drive.Label.{Label}

@@ -1,5 +1,5 @@
 -- The two loops down a source chain: what one turn keeps, and what the end gives.
-use Rattle.std.proofs.Common.{◌≡◌, ℕ, Bool, true, false, cond, not, ◌&&◌, ◌||◌, List, [], ◌∷◌, map, Some, None, Ok, Err, Option, sym, refl, ap, ◌∙◌, subst, arith}
+use Rattle.std.proofs.Common.{◌≡◌, ℕ, Bool, cond, not, ◌&&◌, ◌||◌, List, [], ◌∷◌, Some, None, Ok, Option, sym, refl, ap, ◌∙◌, subst}
 use mathlib.Core.Bool.{or_assoc, or-false}
 use Rattle.classes.specs.Class.{lesser}
 use Rattle.classes.specs.declared.class.Class.{Class}

@@ -1,5 +1,5 @@
 -- What some pairs come to under a policy.
-use Rattle.std.specs.Prelude.{◌≡◌, ℕ, Bool, not, ◌&&◌, List}
+use Rattle.std.specs.Prelude.{ℕ, Bool, not, ◌&&◌, List}
 use Rattle.vocabulary.specs.declared.policy.Pair.{Pair}
 use Rattle.model.specs.Host.{Errors}
 use Rattle.model.specs.Judge.{any_pair, has_rank, least_class, pairs_of}

@@ -8,12 +8,11 @@ use Rattle.std.specs.List.{slice_get}
 use Rattle.vocabulary.specs.Kind.{sourceless}
 use Rattle.vocabulary.specs.declared.kind.Kind.TheVariants.{Plain}
 use Rattle.model.specs.Host.{Error, Errors, Lawful, Live}
-use Rattle.layers.specs.Entries.{entry_at, entry_error, entry_told, layer_span, foot_in, foot_of}
+use Rattle.layers.specs.Entries.{entry_at, entry_error, entry_told, foot_in, foot_of}
 use Rattle.layers.specs.Layer.{layered, layered_span}
 use Rattle.layers.specs.declared.entries.Entries.{Entries}
 use Rattle.layers.specs.declared.entry.Entry.{Entry}
 use Rattle.layers.specs.declared.entry.Foot.{Foot}
-use Rattle.layers.specs.EntryLaws.{entry_read}
 use Rattle.layers.specs.LayerLaws.{passed, entered}
 
 none : Entry

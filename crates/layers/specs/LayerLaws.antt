@@ -1,7 +1,7 @@
 -- A layer that gains an entry gains one error, and else is as it was.
-use Rattle.std.specs.Prelude.{◌≡◌, ℕ, ◌+◌, ◌-◌, ◌<◌, ◌≤◌, Bool, true, false, cond, ◌⊎◌, List, [], length, Some, None, Ok, Err, Option, Result, ◌≢◌, nat_eq, nat_lt, slice_set, refl}
-use Rattle.std.proofs.Common.{sym, ap, subst, ◌∙◌, inl, inr, ⊎_elim, arith, lt-ltb, le-ltb, ltb-true}
-use Rattle.std.proofs.lemmas.Bool.{cond-true, cond-false, cases_lt, cases_eq, cases_Bool, and_parts}
+use Rattle.std.specs.Prelude.{◌≡◌, ℕ, ◌+◌, ◌-◌, ◌<◌, ◌≤◌, Bool, true, false, cond, List, [], length, Some, None, Ok, Err, Option, Result, ◌≢◌, nat_eq, nat_lt, slice_set, refl}
+use Rattle.std.proofs.Common.{sym, ap, subst, ◌∙◌, ⊎_elim, arith, lt-ltb, le-ltb, ltb-true}
+use Rattle.std.proofs.lemmas.Bool.{cond-true, cond-false, cases_lt, cases_eq, and_parts}
 use Rattle.std.proofs.lemmas.Map.{update_here, update_apart}
 use Rattle.std.specs.List.{slice_get}
 use Rattle.std.specs.Map.{update}
@@ -10,7 +10,7 @@ use Rattle.vocabulary.specs.declared.fault.LayerFault.TheVariants.{Full}
 use Rattle.vocabulary.specs.declared.kind.Kind.{Kind}
 use Rattle.model.specs.Host.{Error, Errors, Extends, answer}
 use Rattle.layers.specs.Addition.{Added}
-use Rattle.layers.specs.Entries.{entry_at, entry_error, entry_told, layer_errors, foot_in, foot_from, foot_of, has_room, Pushed}
+use Rattle.layers.specs.Entries.{entry_at, entry_error, entry_told, layer_errors, foot_in, foot_of, has_room, Pushed}
 use Rattle.layers.specs.EntryText.{entry_text, text_of, silences, new_entry}
 use Rattle.layers.specs.Layer.{around, count_after, gained, layered, next_number, wrap_answer}
 use Rattle.layers.specs.declared.addition.LayerAddition.{LayerAddition}

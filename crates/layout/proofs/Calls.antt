@@ -10,7 +10,7 @@ use Rattle.std.proofs.lemmas.List.{get_or_past}
 use Rattle.std.proofs.lemmas.Map.{update_here, update_apart}
 use Rattle.std.proofs.lemmas.Bool.{cases_eq, eq-eqb, ne_eqb, cond-true, cond-false}
 use Rattle.trees.specs.Trees.{Tree, Listing, first_root}
-use Rattle.trees.specs.Numbered.{Numbered, size, tree_of}
+use Rattle.trees.specs.Numbered.{Numbered, tree_of}
 use Rattle.trees.proofs.Sets.{forest_set, report_set, row_set, option_set}
 use Rattle.layout.specs.declared.frame.Role.TheVariants.{Linked, Row}
 use Rattle.layout.specs.declared.frame.Frame.{Frame}

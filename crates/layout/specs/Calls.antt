@@ -1,7 +1,7 @@
 -- What the calls do to reports and rows.
-use Rattle.std.specs.Prelude.{◌≡◌, ℕ, ◌<◌, true, false, List, [], ◌∷◌, ◌++◌, Some, None, Option, nat_eq}
+use Rattle.std.specs.Prelude.{◌≡◌, ℕ, ◌<◌, true, false, List, [], Some, None, Option, nat_eq}
 use Rattle.std.specs.Map.{update}
-use Rattle.trees.specs.Trees.{Forest, empty, Tree, ◌then◌, leaf, Listing, forest, among, first_root, list_of}
+use Rattle.trees.specs.Trees.{leaf, Listing, forest, among, first_root, list_of}
 pub use Rattle.trees.specs.Listings.{alone, under, joined, first_of, rest_of, opened, bare, children_of}
 use Rattle.vocabulary.specs.declared.frame_error.FrameError.{FrameError}
 use Rattle.trees.specs.Counting.{unused}

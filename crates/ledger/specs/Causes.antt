@@ -1,5 +1,5 @@
 -- When a building call is turned down: the first cause that holds of ledger, host and arguments, or none.
-use Rattle.std.specs.Prelude.{ℕ, Bool, true, false, not, ◌&&◌, length, is_some, Some, None, Option, ◌==◌, nat_le, nat_lt}
+use Rattle.std.specs.Prelude.{ℕ, Bool, true, false, ◌&&◌, length, is_some, Some, None, Option, ◌==◌, nat_le, nat_lt}
 use Rattle.vocabulary.specs.declared.fault.HostFault.TheVariants.{NotLive}
 use Rattle.vocabulary.specs.declared.fault.StoreFault.{StoreFault}
 use Rattle.vocabulary.specs.declared.fault.StoreFault.TheVariants.{NotHeld, Host, NoFrames, ListTooShort}

@@ -1,12 +1,12 @@
 -- The ledger holds a tree for each report and a row of trees for each basket. It is fed by each call's arguments and
 -- answer, and by nothing of the store. A report is known by the number of its root, a basket by that of its first report;
 -- an empty basket has none, and its row is empty.
-use Rattle.std.specs.Prelude.{◌≡◌, ℕ, ◌<◌, Bool, true, false, List, [], ◌∷◌, ◌++◌, Some, None, Option, nat_eq}
+use Rattle.std.specs.Prelude.{◌≡◌, ℕ, true, false, [], ◌∷◌, ◌++◌, Some, None, Option, nat_eq}
 use Rattle.std.specs.Map.{update}
 use Rattle.vocabulary.specs.declared.frame_error.FrameError.{FrameError}
 use Rattle.trees.specs.Counting.{unused}
 use Rattle.trees.specs.Listings.{alone, bare, children_of, opened, under}
-use Rattle.trees.specs.Trees.{Tree, Listing, among, first_root, forest, leaf, list_of, only}
+use Rattle.trees.specs.Trees.{Tree, Listing, among, forest, leaf, list_of, only}
 
 pub record Ledger : Type 0 where
   pub reports : ℕ → Option Tree

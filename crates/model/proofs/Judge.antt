@@ -1,15 +1,15 @@
 -- The deepest challenge decides for each error of a chain; the least class and the accepted pairs, one error at a time.
-use Rattle.std.proofs.Common.{◌≡◌, ℕ, zero, suc, ◌<◌, ◌≤◌, Bool, true, false, cond, not, ◌&&◌, ◌||◌, eqb, ltb, ◌⊎◌, List, [], ◌∷◌, map, is_some, Some, None, Option, sym, refl, ap, ◌∙◌, subst, inl, inr, ⊎_elim, arith, le-ltb, lt-ltb}
+use Rattle.std.proofs.Common.{◌≡◌, ℕ, zero, suc, ◌<◌, ◌≤◌, Bool, true, false, cond, ◌||◌, eqb, List, [], ◌∷◌, is_some, Some, None, Option, sym, refl, ap, ◌∙◌, subst, arith, le-ltb, lt-ltb}
 use mathlib.Core.Bool.{or-false}
 use Rattle.std.proofs.lemmas.Bool.Decides.{nat_tests}
 use Rattle.std.proofs.lemmas.Bool.{or_parts}
 use Rattle.classes.specs.Class.{lesser, rank}
 use Rattle.classes.specs.declared.class.Class.{Class}
 use Rattle.vocabulary.specs.declared.policy.Pair.{Pair}
-use Rattle.model.specs.Challenge.{or, itself, deepest, beneath}
+use Rattle.model.specs.Challenge.{or, deepest, beneath}
 use Rattle.model.specs.Host.{Error, Errors, Lawful}
 use Rattle.model.specs.Judge.{is_challenge, any, has_rank, least_class, any_pair, cancelled}
-use Rattle.model.specs.Sources.{source_of, bound, chain_up_to, chain_from, LiveOrNone}
+use Rattle.model.specs.Sources.{source_of, bound, chain_up_to, LiveOrNone}
 use Rattle.model.proofs.Sources.{live-told, source-bound, source-live}
 
 pub lesser_assoc : (a b c : Option Class) → lesser (lesser a b) c ≡ lesser a (lesser b c)

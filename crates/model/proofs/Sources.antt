@@ -1,6 +1,6 @@
 -- The chain of an error begins with it and goes on with its source's.
-use Rattle.std.proofs.Common.{◌≡◌, ℕ, zero, suc, ◌<◌, ◌≤◌, true, false, List, [], ◌∷◌, length, is_some, Some, None, Option, sym, refl, ap, ◌∙◌, subst, arith}
-use Rattle.model.specs.Host.{Error, Errors, Live, Lawful}
+use Rattle.std.proofs.Common.{◌≡◌, ℕ, zero, suc, ◌≤◌, true, List, ◌∷◌, length, is_some, Some, None, Option, sym, refl, ap, ◌∙◌, subst, arith}
+use Rattle.model.specs.Host.{Error, Errors, Lawful}
 use Rattle.model.specs.Sources.{source_of, chain_up_to, bound, chain_from, chain, sources, LiveOrNone}
 
 pub live-told : (o : Option Error) → is_some o ≡ true → (m : Error) × (o ≡ Some m)

@@ -1,9 +1,9 @@
 -- One step down a source chain, by what the host answers.
-use Rattle.std.proofs.Common.{◌≡◌, ℕ, suc, ◌<◌, ◌≤◌, List, [], ◌∷◌, is_some, Some, None, Ok, Err, Option, Result, sym, refl, ap, ◌∙◌, subst, arith}
+use Rattle.std.proofs.Common.{◌≡◌, ℕ, ◌<◌, ◌≤◌, ◌∷◌, is_some, Some, None, Ok, Err, Option, sym, refl, ap, ◌∙◌, subst, arith}
 use Rattle.vocabulary.specs.declared.fault.HostFault.{HostFault}
 use Rattle.vocabulary.specs.declared.kind.Kind.{Kind}
 use Rattle.model.specs.Host.{Error, Errors, Live, Lawful, answer}
-use Rattle.model.specs.Sources.{bound, chain_up_to, chain_from, LiveOrNone}
+use Rattle.model.specs.Sources.{bound, chain_from, LiveOrNone}
 use Rattle.model.proofs.Sources.{live-told, source-bound, source-live, chain_is}
 
 pub answered : {A : Type 0} (o : Option Error) (e : ℕ) (f : Error → A) (a : A) → Ok a ≡ answer o e f → (m : Error) × (o ≡ Some m) × (a ≡ f m)

@@ -1,5 +1,5 @@
 -- What a host means: which error numbers are live, and what it tells of each.
-use Rattle.std.specs.Prelude.{◌≡◌, ℕ, ◌<◌, ◌≤◌, Bool, true, cond, List, ◌++◌, length, drop, is_some, Some, None, Ok, Err, Option, Result, nat_le}
+use Rattle.std.specs.Prelude.{◌≡◌, ℕ, ◌<◌, ◌≤◌, true, cond, List, ◌++◌, length, drop, is_some, Some, None, Ok, Err, Option, Result, nat_le}
 use Rattle.vocabulary.specs.Kind.{sourceless}
 use Rattle.vocabulary.specs.declared.kind.Kind.{Kind}
 use Rattle.vocabulary.specs.declared.fault.HostFault.{HostFault}

@@ -1,5 +1,5 @@
 -- Class and pair of an error, and what a list of errors comes to.
-use Rattle.std.specs.Prelude.{ℕ, Bool, true, false, cond, not, ◌&&◌, ◌||◌, List, [], ◌∷◌, map, Some, None, Option, ◌==◌}
+use Rattle.std.specs.Prelude.{ℕ, Bool, false, cond, not, ◌&&◌, ◌||◌, List, [], ◌∷◌, map, Some, None, Option, ◌==◌}
 use Rattle.classes.specs.Class.{class_at, lesser, rank}
 use Rattle.vocabulary.specs.IoKind.{io_class, io_number}
 use Rattle.classes.specs.declared.class.Class.{Class}

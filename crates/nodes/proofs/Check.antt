@@ -3,12 +3,12 @@ use Rattle.std.proofs.Common.{◌≡◌, ℕ, zero, suc, ◌+◌, ◌-◌, ◌<�
 use Rattle.std.proofs.lemmas.List.{append-nil, take_all}
 use Rattle.std.proofs.lemmas.Bool.{cases_eq, cond-false}
 use Rattle.model.specs.Host.{Errors, Lawful}
-use Rattle.trees.specs.Trees.{Forest, tree, Tree}
+use Rattle.trees.specs.Trees.{Forest, Tree}
 use Rattle.nodes.specs.declared.node.Node.{Node}
 use Rattle.nodes.specs.declared.node.Note.TheVariants.{Clear as NoNote}
-use Rattle.nodes.specs.Rows.{none, count, ◌beside◌}
+use Rattle.nodes.specs.Rows.{count, ◌beside◌}
 use Rattle.nodes.specs.Breadth.{Entry, under}
-use Rattle.nodes.specs.Nodes.{Content, Nodes, frame, natives, sources_of, expand, nodes_of, LiveError, LiveForest, LiveTree}
+use Rattle.nodes.specs.Nodes.{Content, Nodes, natives, sources_of, expand, nodes_of, LiveError, LiveForest, LiveTree}
 use Rattle.nodes.specs.Flattening.{listed, flattening}
 use Rattle.nodes.specs.Begins.{Flat, Begins}
 use Rattle.nodes.specs.Queue.{queue, weight}

@@ -2,9 +2,7 @@
 use Rattle.std.proofs.Common.{◌≡◌, ℕ, zero, suc, ◌+◌, ◌<◌, ◌≤◌, true, false, ◌⊎◌, List, length, take, is_some, Some, None, sym, refl, ap, ◌∙◌, subst, inl, inr, ⊎_elim, add-one, arith}
 use Rattle.std.proofs.lemmas.Bool.{cases_eq, cases_lt, cases_order, cond-true, cond-false, true≢false}
 use Rattle.model.specs.Host.{Errors, Lawful}
-use Rattle.trees.specs.Trees.{empty}
 use Rattle.nodes.specs.declared.node.Node.{Node}
-use Rattle.nodes.specs.declared.node.Note.TheVariants.{Clear as NoNote}
 use Rattle.nodes.specs.Rows.{count}
 use Rattle.nodes.specs.Nodes.{nodes_of, LiveError}
 use Rattle.nodes.specs.Begins.{Flat, Begins, FirstBad}

@@ -5,7 +5,7 @@ use Rattle.std.proofs.lemmas.Bool.{eq-eqb, ne_eqb, cond-true, cond-false}
 use Rattle.vocabulary.specs.declared.frame_error.FrameError.{FrameError}
 use Rattle.vocabulary.specs.declared.frame_error.FrameError.TheVariants.{Host}
 use Rattle.model.specs.Host.{Error, Errors, Live, Lawful, Extends}
-use Rattle.model.specs.Sources.{source_of, chain_up_to, bound, chain_from, sources, LiveOrNone}
+use Rattle.model.specs.Sources.{source_of, chain_up_to, bound, chain_from, LiveOrNone}
 use Rattle.model.proofs.Sources.{live-told, source-live}
 use Rattle.trees.specs.Trees.{Forest, empty, tree, Tree, only}
 use Rattle.nodes.specs.declared.node.Node.{Node}

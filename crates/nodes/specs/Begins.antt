@@ -1,6 +1,6 @@
 -- Which lists are flattenings, and which begin one.
 use Rattle.std.specs.Prelude.{◌≡◌, ℕ, ◌+◌, ◌<◌, ◌≤◌, List, ◌++◌, length, take, Some, None, Option}
-use Rattle.model.specs.Host.{Errors, Extends}
+use Rattle.model.specs.Host.{Errors}
 use Rattle.trees.specs.Trees.{Tree}
 use Rattle.nodes.specs.declared.node.Node.{Node}
 use Rattle.nodes.specs.Nodes.{LiveTree}

@@ -1,5 +1,5 @@
 -- The nodes of a row listed breadth-first, and the row of a list.
-use Rattle.std.specs.Prelude.{ℕ, zero, suc, ◌+◌, Bool, true, false, cond, List, [], ◌∷◌, ◌++◌, map, length, Some, None, Option, ◌==◌}
+use Rattle.std.specs.Prelude.{ℕ, zero, suc, ◌+◌, Bool, false, cond, List, [], ◌∷◌, ◌++◌, map, length, Some, None, Option, ◌==◌}
 use Rattle.nodes.specs.Rows.{Rows, none, node, count}
 
 -- a listed node: the index of its parent, none for a root, and its value

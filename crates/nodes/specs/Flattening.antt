@@ -1,5 +1,5 @@
 -- The flattening of a report, and the tree of a list.
-use Rattle.std.specs.Prelude.{ℕ, List, [], ◌∷◌, map, Some, None, Option}
+use Rattle.std.specs.Prelude.{List, [], ◌∷◌, map, Some, None, Option}
 use Rattle.model.specs.Host.{Errors}
 use Rattle.trees.specs.Trees.{Tree, only}
 use Rattle.nodes.specs.declared.node.Node.{Node}

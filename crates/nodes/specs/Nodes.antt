@@ -1,5 +1,5 @@
 -- The nodes of a report: its frames, and beneath each frame the sources of its error, each the child of the one before.
-use Rattle.std.specs.Prelude.{◌≡◌, ℕ, Bool, true, false, List, [], ◌∷◌}
+use Rattle.std.specs.Prelude.{ℕ, Bool, true, false, List, [], ◌∷◌}
 use Rattle.vocabulary.specs.declared.frame_error.FrameError.{FrameError}
 use Rattle.vocabulary.specs.declared.frame_error.FrameError.TheVariants.{Host}
 use Rattle.model.specs.Host.{Errors, Live}

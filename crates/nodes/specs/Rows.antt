@@ -1,5 +1,5 @@
 -- Trees of values side by side. antt has no nested recursion, so the trees of a row are linked, as its children are.
-use Rattle.std.specs.Prelude.{ℕ, ◌+◌, List, [], ◌∷◌}
+use Rattle.std.specs.Prelude.{ℕ, ◌+◌}
 
 infixr 30 ◌beside◌
 -- the value and the children of the first node, and the nodes after it

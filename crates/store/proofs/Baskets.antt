@@ -1,10 +1,10 @@
 -- A basket's row begins with the root by which it is known, and joining, collecting and taking are what the ledger says.
-use Rattle.std.proofs.Common.{◌≡◌, ℕ, Bool, true, false, cond, eqb, List, [], ◌∷◌, ◌++◌, get_or, is_some, Some, None, Option, sym, refl, ap, ◌∙◌, subst, ⊎_elim, arith, eq-eqb, ne_eqb}
+use Rattle.std.proofs.Common.{◌≡◌, ℕ, true, eqb, List, [], ◌∷◌, ◌++◌, get_or, is_some, Some, None, Option, sym, refl, ap, ◌∙◌, ⊎_elim, arith}
 use Rattle.std.proofs.lemmas.Map.{update_here, update_apart, update-update}
 use Rattle.std.proofs.lemmas.Bool.{cases_eq}
 use Rattle.std.specs.Map.{update}
 use Rattle.layout.specs.Layout.{blank}
-use Rattle.layout.specs.Reports.{Means, reports, rows, read_row, tree_at, if_row}
+use Rattle.layout.specs.Reports.{Means, rows, read_row, if_row}
 use Rattle.layout.specs.declared.frame.Frame.{Frame}
 use Rattle.layout.specs.declared.frame.Role.{Role}
 use Rattle.layout.specs.declared.frame.Role.TheVariants.{Linked, Report, Row}

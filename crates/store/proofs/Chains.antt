@@ -1,8 +1,7 @@
 -- A report's chain.
-use Rattle.std.proofs.Common.{◌≡◌, ℕ, Bool, true, false, leb, List, ◌++◌, length, take, drop, Some, None, Option, sym, refl, ap, ◌∙◌, subst, arith}
+use Rattle.std.proofs.Common.{◌≡◌, ℕ, Bool, true, List, ◌++◌, length, take, drop, Some, None, Option, sym, refl, ap, ◌∙◌, arith}
 use Rattle.std.proofs.lemmas.List.{take_at}
 use Rattle.vocabulary.specs.declared.fault.StoreFault.{StoreFault}
-use Rattle.vocabulary.specs.declared.fault.StoreFault.TheVariants.{NotHeld, ListTooShort}
 use Rattle.model.specs.Host.{Errors, Extends, Lawful}
 use Rattle.trees.specs.Trees.{Tree}
 use Rattle.nodes.specs.declared.node.Node.{Node}
@@ -10,13 +9,13 @@ use Rattle.nodes.specs.Begins.{Flattens}
 use Rattle.nodes.specs.Flattening.{flattening}
 use Rattle.nodes.specs.Nodes.{LiveTree}
 use Rattle.nodes.proofs.Rebuild.{gained, live-gained}
-use Rattle.ledger.specs.Causes.{all_live, held, list_cause, unless}
+use Rattle.ledger.specs.Causes.{all_live, held, list_cause}
 use Rattle.ledger.specs.Ledger.{discarded}
 use Rattle.readings.specs.Readings.{errors_of, first_not_live}
 use Rattle.readings.proofs.Explicit.{tree_live}
 use Rattle.readings.proofs.Laws.{first_not_live_by_frames}
 use Rattle.store.specs.Calls.{report_held}
-use Rattle.store.specs.Chains.{ChainOf, flatten_cause, list_cause_of, nodes_in}
+use Rattle.store.specs.Chains.{ChainOf, list_cause_of, nodes_in}
 use Rattle.store.specs.Store.{Became, ledger_of}
 use Rattle.store.specs.declared.chain.ChainedError.{ChainedError}
 use Rattle.store.specs.declared.store.Store.{Store}

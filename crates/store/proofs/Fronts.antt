@@ -1,5 +1,5 @@
 -- The nodes of a chain stand at the front of its list.
-use Rattle.std.proofs.Common.{◌≡◌, ℕ, ◌-◌, ◌≤◌, min, List, length, take, sym, ap, ◌∙◌, arith}
+use Rattle.std.proofs.Common.{◌≡◌, ℕ, ◌-◌, min, List, length, take, sym, ap, ◌∙◌, arith}
 use native.Mathlib.Nat.{min-le_right}
 use native.Mathlib.Omega.{min_cases}
 use Rattle.std.proofs.lemmas.List.{length-take-le, take_all}

@@ -1,20 +1,19 @@
 -- Chains built into trees.
-use Rattle.std.proofs.Common.{◌≡◌, ℕ, ◌+◌, ◌<◌, ◌≤◌, List, ◌++◌, length, take, drop, sym, refl, ap, ◌∙◌, subst, ⊎_elim, arith}
+use Rattle.std.proofs.Common.{◌≡◌, ℕ, ◌+◌, ◌<◌, ◌≤◌, List, length, drop, sym, ◌∙◌, ⊎_elim, arith}
 use Rattle.std.proofs.lemmas.List.{take-append-drop}
 use Rattle.std.proofs.lemmas.Bool.{cases_lt}
 use Rattle.model.specs.Host.{Errors}
-use Rattle.trees.specs.Trees.{Tree, frames}
+use Rattle.trees.specs.Trees.{frames}
 use Rattle.frames.specs.Of.{frames_of}
 use Rattle.nodes.specs.declared.node.Node.{Node}
-use Rattle.nodes.specs.Begins.{FirstBad, Flat, Flattens}
+use Rattle.nodes.specs.Begins.{FirstBad, Flat}
 use Rattle.nodes.specs.Check.{explicit_count}
-use Rattle.nodes.specs.Flattening.{flattening}
 use Rattle.nodes.proofs.Explicit.{explicit-frames}
 use Rattle.nodes.proofs.Rebuild.{apart}
-use Rattle.ledger.specs.Ledger.{Fresh, free}
+use Rattle.ledger.specs.Ledger.{free}
 use Rattle.rebuilding.specs.Steps.{Built}
 use Rattle.store.specs.Chains.{NoTree, TooFew, TreeBuilt}
-use Rattle.store.specs.Store.{Became, ledger_of}
+use Rattle.store.specs.Store.{ledger_of}
 use Rattle.store.specs.declared.store.Store.{Store}
 
 -- a list that is bad at an index is no flattening

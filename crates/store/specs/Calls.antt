@@ -1,5 +1,5 @@
 -- What the building calls answer and leave.
-use Rattle.std.specs.Prelude.{◌≡◌, ℕ, Bool, true, false, cond, not, ◌&&◌, [], Some, None, Ok, Err, Option, Result, ◌==◌}
+use Rattle.std.specs.Prelude.{◌≡◌, ℕ, Bool, false, cond, not, ◌&&◌, [], Some, None, Ok, Err, Option, Result, ◌==◌}
 use Rattle.vocabulary.specs.declared.fault.StoreFault.{StoreFault}
 use Rattle.vocabulary.specs.declared.fault.StoreFault.TheVariants.{NotHeld}
 use Rattle.vocabulary.specs.declared.frame_error.FrameError.TheVariants.{Host}

@@ -1,5 +1,5 @@
 -- What a store holds: its ledger.
-use Rattle.std.specs.Prelude.{◌≡◌, ℕ}
+use Rattle.std.specs.Prelude.{◌≡◌}
 use Rattle.frames.specs.Of.{frames_of, reports_of, rows_of}
 use Rattle.layout.specs.Reports.{Means}
 use Rattle.ledger.specs.Ledger.{Ledger}

@@ -1,5 +1,5 @@
 -- A new root over a report is a report, and a basket stays.
-use Rattle.std.proofs.Common.{◌≡◌, ℕ, Bool, true, false, ◌&&◌, eqb, is_some, Some, None, Ok, Err, Option, Result, sym, refl, ap, ◌∙◌, subst, arith, eq-eqb}
+use Rattle.std.proofs.Common.{◌≡◌, ℕ, Bool, true, false, ◌&&◌, eqb, is_some, Some, None, Ok, Option, sym, refl, ap, ◌∙◌, arith, eq-eqb}
 use Rattle.std.proofs.lemmas.Map.{update_here}
 use Rattle.std.specs.Map.{update}
 use Rattle.vocabulary.specs.declared.frame_error.FrameError.{FrameError}
@@ -12,7 +12,6 @@ use Rattle.store.specs.Calls.{Raised, report_held}
 use Rattle.store.specs.declared.store.Store.{Store}
 use Rattle.store.specs.declared.token.Basket.{Basket}
 use Rattle.store.specs.declared.token.Exn.{Exn}
-use Rattle.store.specs.declared.token.Refusal.{Refusal}
 use Rattle.store_tests.specs.Held.{basket_kept}
 
 over_some : (e : FrameError) (p : ℕ) (o : Option Tree) → is_some o ≡ true → is_some (over e p o) ≡ true

@@ -1,19 +1,18 @@
 -- Which records are live, and that the table host keeps the rules of a host.
-use Rattle.std.specs.Prelude.{◌≡◌, ℕ, zero, suc, ◌+◌, ◌<◌, ◌≤◌, min, Bool, true, false, cond, not, ◌&&◌, ◌⊎◌, List, [], ◌∷◌, ◌++◌, length, get_or, take, drop, is_some, Some, None, Ok, Err, Option, Result, nat_le, nat_lt, slice_index_or, refl}
-use Rattle.std.proofs.Common.{sym, ap, subst, ◌∙◌, inl, inr, ⊎_elim, arith, length-take, length-drop, length-append, below_more, ltb-true, leb-true, lt-ltb, le-ltb}
+use Rattle.std.specs.Prelude.{◌≡◌, ℕ, zero, suc, ◌+◌, ◌<◌, ◌≤◌, min, Bool, true, false, cond, not, ◌&&◌, ◌⊎◌, List, [], ◌∷◌, ◌++◌, length, get_or, take, drop, is_some, Some, None, Ok, Err, Option, nat_le, nat_lt, slice_index_or, refl}
+use Rattle.std.proofs.Common.{sym, ap, subst, ◌∙◌, inl, inr, ⊎_elim, arith, length-take, length-drop, length-append, below_more, ltb-true, leb-true, lt-ltb}
 use Rattle.std.proofs.Math.Bool.{and-true}
 use Rattle.std.proofs.Math.Nat.{le-min, min-eq_left, min-le_left, min-le_right}
-use Rattle.std.proofs.lemmas.Bool.{and_parts, cases_Bool, cases_lt, cond-true, cond-false, not-true}
+use Rattle.std.proofs.lemmas.Bool.{and_parts, cases_Bool, cases_lt, cond-true, not-true}
 use Rattle.std.proofs.lemmas.List.{get_or_append_left, get_or_at, get_or_past}
 use Rattle.std.proofs.lemmas.Option.{slice_get_past, slice_get-get_or}
 use Rattle.std.specs.Option.{option_map}
 use Rattle.std.specs.List.{slice_get}
 use Rattle.vocabulary.specs.Kind.{sourceless}
 use Rattle.vocabulary.specs.declared.kind.Kind.{Kind}
-use Rattle.vocabulary.specs.declared.fault.HostFault.{HostFault}
 use Rattle.vocabulary.specs.declared.fault.HostFault.TheVariants.{TextTooLong}
 use Rattle.model.specs.Host.{Error, Lawful, Live, answer, text_answer, text_filled}
-use Rattle.table_host.specs.Table.{record_kind, source_fits, kind_fits, text_fits, record_fits, source_live, record_live, live_within, live, record_error, record_told, table_errors, table_span}
+use Rattle.table_host.specs.Table.{record_kind, kind_fits, record_fits, source_live, record_live, live_within, live, record_error, record_told, table_errors, table_span}
 use Rattle.table_host.specs.declared.record.Record.{Record}
 
 blank : Record

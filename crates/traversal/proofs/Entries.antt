@@ -1,6 +1,6 @@
 -- What waits in a list, as entries of the listing.
 use Rattle.std.proofs.Common.{◌≡◌, ℕ, List, [], ◌∷◌, ◌++◌, map, Some, None, Option, sym, refl, ap, ◌∙◌, ap₂, arith}
-use Rattle.std.proofs.lemmas.List.{append-nil, map-append}
+use Rattle.std.proofs.lemmas.List.{map-append}
 use Rattle.vocabulary.specs.declared.frame_error.FrameError.{FrameError}
 use Rattle.vocabulary.specs.declared.frame_error.FrameError.TheVariants.{Host}
 use Rattle.model.specs.Host.{Error, Errors, Lawful}
@@ -9,7 +9,7 @@ use Rattle.model.proofs.Sources.{chain_is, live-told}
 use Rattle.trees.specs.Trees.{Forest, empty, tree}
 use Rattle.nodes.specs.Rows.{Rows, none, node, ◌beside◌}
 use Rattle.nodes.specs.Breadth.{Entry, under}
-use Rattle.nodes.specs.Nodes.{Content, FrameContent, Nodes, expand, frame, frame_rows, natives, source, sources_of}
+use Rattle.nodes.specs.Nodes.{Content, FrameContent, expand, frame, frame_rows, natives, sources_of}
 use Rattle.traversal.specs.Spread.{Wait, of_source, of_frame, born, entry_in, error_source, frames_in, from_forest, from_source}
 
 under_beside : {A : Type 0} (o : Option ℕ) (r s : Rows A) → under o (r beside s) ≡ under o r ++ under o s

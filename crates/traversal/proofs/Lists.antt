@@ -1,18 +1,16 @@
 -- The nodes that are appended beneath one.
-use Rattle.std.proofs.Common.{◌≡◌, ℕ, zero, suc, ◌+◌, ◌<◌, ◌≤◌, true, false, eqb, List, [], ◌∷◌, ◌++◌, map, length, get_or, take, drop, set, Some, None, Option, sym, refl, ap, ◌∙◌, subst, ap₂, ⊎_elim, append_assoc, arith}
+use Rattle.std.proofs.Common.{◌≡◌, ℕ, ◌+◌, ◌<◌, ◌≤◌, true, false, List, [], ◌∷◌, ◌++◌, map, length, get_or, take, drop, set, Some, None, Option, sym, refl, ap, ◌∙◌, subst, ap₂, ⊎_elim, append_assoc, arith}
 use Rattle.std.proofs.lemmas.List.{append-nil, length-append, length-map, length-take-le, map-append, drop_all, drop_more, get_or-map, get_or-take}
 use Rattle.std.proofs.lemmas.Bool.{cases_lt, eq-eqb, true≢false}
-use Rattle.vocabulary.specs.declared.frame_error.FrameError.{FrameError}
-use Rattle.model.specs.Host.{Errors}
 use Rattle.trees.specs.Trees.{Forest, empty, tree}
 use Rattle.nodes.specs.declared.node.Node.{Node}
-use Rattle.nodes.specs.Breadth.{Item, Entry, item, under, is_parent}
+use Rattle.nodes.specs.Breadth.{Item, item, under, is_parent}
 use Rattle.nodes.specs.Flattening.{listed}
 use Rattle.nodes.specs.Nodes.{FrameContent, frame, frame_rows}
 use Rattle.traversal.specs.declared.order.Visit.{Visit}
 use Rattle.traversal.specs.Order.{visited}
 use Rattle.traversal.specs.Put.{Put}
-use Rattle.traversal.specs.Spread.{Wait, of_source, of_frame, error_source, wait_node, from_source, from_forest, trees, NotUnder, NextFrames, Listing}
+use Rattle.traversal.specs.Spread.{Wait, of_source, of_frame, wait_node, from_source, from_forest, trees, NotUnder, NextFrames, Listing}
 use Rattle.traversal.specs.Start.{blank_node}
 use Rattle.traversal.specs.Walk.{unvisited}
 use Rattle.traversal.proofs.Puts.{put_none, put_more}

@@ -1,5 +1,5 @@
 -- Writing elements one after the other.
-use Rattle.std.proofs.Common.{◌≡◌, ℕ, ◌+◌, ◌<◌, ◌≤◌, List, [], ◌∷◌, ◌++◌, length, take, drop, set, sym, refl, ap, ◌∙◌, ap₂, append_assoc, arith}
+use Rattle.std.proofs.Common.{◌≡◌, ℕ, ◌+◌, ◌<◌, ◌≤◌, List, [], ◌∷◌, ◌++◌, length, take, drop, set, sym, ap, ◌∙◌, ap₂, append_assoc, arith}
 use Rattle.std.proofs.lemmas.List.{length-append, length-take-le, drop_at, drop-drop, drop_more, set_at, take-append-drop, take_at}
 use Rattle.traversal.specs.Put.{Put}
 

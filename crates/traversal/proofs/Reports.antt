@@ -1,19 +1,15 @@
 -- A report gone through: its order, its number of nodes, its list.
-use Rattle.std.proofs.Common.{◌≡◌, ℕ, ◌<◌, ◌≤◌, true, false, leb, List, ◌++◌, map, length, take, drop, is_some, Some, None, Ok, Err, Option, Result, sym, refl, ap, ◌∙◌, subst, arith}
+use Rattle.std.proofs.Common.{◌≡◌, ℕ, ◌≤◌, true, leb, List, map, length, take, is_some, Some, None, Ok, Option, refl, ap, ◌∙◌, subst, arith}
 use Rattle.std.proofs.lemmas.Bool.{false≢true, le-leb}
-use Rattle.vocabulary.specs.declared.fault.HostFault.{HostFault}
-use Rattle.vocabulary.specs.declared.fault.StoreFault.{StoreFault}
 use Rattle.vocabulary.specs.declared.fault.StoreFault.TheVariants.{ListTooShort}
 use Rattle.model.specs.Host.{Errors}
 use Rattle.trees.specs.Trees.{Tree}
-use Rattle.nodes.specs.declared.node.Node.{Node}
 use Rattle.nodes.specs.Flattening.{flattening, frame_list}
 use Rattle.nodes.proofs.Rebuild.{flattening-length}
-use Rattle.ledger.specs.Causes.{all_live, unless, live_cause, list_cause}
+use Rattle.ledger.specs.Causes.{all_live, unless, list_cause}
 use Rattle.readings.specs.Readings.{errors_of, first_not_live}
 use Rattle.traversal.specs.declared.order.Visit.{Visit}
 use Rattle.traversal.specs.Order.{visited, Ordered}
-use Rattle.traversal.specs.Report.{ListedInto}
 use Rattle.traversal.specs.Spread.{Begun}
 use Rattle.traversal.specs.Survey.{or_else, survey_of}
 

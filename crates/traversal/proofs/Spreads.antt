@@ -1,11 +1,11 @@
 -- The steps of a flattening.
-use Rattle.std.proofs.Common.{◌≡◌, ℕ, zero, suc, ◌+◌, ◌<◌, ◌≤◌, List, [], ◌∷◌, ◌++◌, map, length, get_or, take, drop, set, Some, None, Option, sym, refl, ap, ◌∙◌, subst, ap₂, append_assoc, add-zero, add-one, arith}
+use Rattle.std.proofs.Common.{◌≡◌, ℕ, zero, suc, ◌+◌, ◌<◌, ◌≤◌, List, [], ◌∷◌, ◌++◌, map, length, get_or, take, drop, set, Some, None, sym, refl, ap, ◌∙◌, subst, ap₂, append_assoc, add-zero, add-one, arith}
 use Rattle.std.proofs.lemmas.List.{append-nil, length-append, length-map, length-set, length-take-le, map-append, drop_at, drop-drop, drop_more, drop-set-lt, get_or_at, get_or-set_same, take_at}
 use Rattle.model.specs.Host.{Errors, Lawful}
-use Rattle.trees.specs.Trees.{Forest, Tree, only}
+use Rattle.trees.specs.Trees.{Tree, only}
 use Rattle.nodes.specs.declared.node.Node.{Node}
 use Rattle.nodes.specs.Rows.{count}
-use Rattle.nodes.specs.Breadth.{Item, Entry, item, under, below}
+use Rattle.nodes.specs.Breadth.{Item, Entry, item, under}
 use Rattle.nodes.specs.Flattening.{flattening, frame_list, listed}
 use Rattle.nodes.specs.Nodes.{Content, FrameContent, frame, frame_rows, nodes_of}
 use Rattle.nodes.specs.Queue.{queue, weight}
@@ -13,7 +13,6 @@ use Rattle.nodes.proofs.Queue.{breadth_queue, weight_append, weight-under}
 use Rattle.traversal.specs.declared.flatten.Progress.{Progress}
 use Rattle.traversal.specs.declared.order.Visit.{Visit}
 use Rattle.traversal.specs.Order.{visited}
-use Rattle.traversal.specs.Put.{Put}
 use Rattle.traversal.specs.Spread.{Wait, of_source, of_frame, born, entry_in, error_source, frames_in, from_forest, from_source, trees, wait_node, NextBelow, Waits, Grown, InOrder, Spread, Begun}
 use Rattle.traversal.specs.Start.{blank_node}
 use Rattle.traversal.specs.Walk.{unvisited}

@@ -1,5 +1,5 @@
 -- Counting the nodes of a report frame by frame.
-use Rattle.std.proofs.Common.{◌≡◌, ℕ, suc, ◌+◌, ◌<◌, ◌≤◌, cond, List, [], ◌∷◌, map, length, is_some, Some, None, Ok, Err, Option, Result, sym, refl, ap, ◌∙◌, subst, ap₂, arith}
+use Rattle.std.proofs.Common.{◌≡◌, ℕ, suc, ◌+◌, ◌<◌, ◌≤◌, cond, List, [], ◌∷◌, length, is_some, Some, None, Ok, Err, Option, sym, refl, ap, ◌∙◌, ap₂, arith}
 use Rattle.std.proofs.lemmas.List.{length-map}
 use Rattle.vocabulary.specs.FrameError.{error_number}
 use Rattle.vocabulary.specs.declared.frame_error.FrameError.{FrameError}
@@ -17,7 +17,6 @@ use Rattle.nodes.specs.Flattening.{flattening, frame_list}
 use Rattle.nodes.specs.Nodes.{FrameContent, sources_of}
 use Rattle.readings.specs.ByFrames.{listed_errors}
 use Rattle.readings.specs.Folds.{CommutativeMonoid, folded}
-use Rattle.readings.specs.Frames.{over_frames}
 use Rattle.readings.specs.Readings.{errors_of, first_not_live}
 use Rattle.readings.proofs.Laws.{first_not_live_by_frames}
 use Rattle.readings.proofs.Sums.{chain-sources, errors_folded, frames-folded, over_same}

@@ -1,11 +1,9 @@
 -- Frames side by side, appended one after the other.
-use Rattle.std.proofs.Common.{◌≡◌, ℕ, ◌+◌, ◌<◌, ◌≤◌, List, [], ◌∷◌, ◌++◌, length, get_or, set, Some, None, Option, sym, refl, ap, ◌∙◌, subst, arith}
-use Rattle.vocabulary.specs.declared.frame_error.FrameError.{FrameError}
+use Rattle.std.proofs.Common.{◌≡◌, ℕ, ◌+◌, ◌<◌, List, [], ◌∷◌, ◌++◌, length, get_or, set, Some, None, Option, sym, refl, ap, ◌∙◌, subst, arith}
 use Rattle.trees.specs.Numbered.{Numbered, none, node, ◌beside◌, head_of}
-use Rattle.layout.specs.declared.frame.Role.{Role}
 use Rattle.layout.specs.declared.frame.Role.TheVariants.{Linked}
 use Rattle.layout.specs.declared.frame.Frame.{Frame}
-use Rattle.layout.specs.Layout.{blank, frame_of, Held}
+use Rattle.layout.specs.Layout.{blank, Held}
 use Rattle.traversal.specs.declared.order.Visit.{Visit}
 use Rattle.traversal.specs.Order.{visit_at, width, visits, Room, Appended}
 use Rattle.traversal.specs.Put.{Put}

@@ -8,18 +8,18 @@ use Rattle.std.proofs.lemmas.Bool.{false≢true}
 use Rattle.std.proofs.lemmas.List.{append-nil, length-append, length-map, map-append, drop_more, drop-drop, drop_at, drop-set-lt, take_at, get_or_at, get_or-set_same, length-set}
 use Rattle.trees.specs.Trees.{Forest, empty, tree, Tree, frames, only}
 use Rattle.trees.specs.Counting.{in_report}
-use Rattle.trees.specs.Numbered.{Numbered, none, node, shape, size, head_of}
+use Rattle.trees.specs.Numbered.{Numbered, none, node, shape, size}
 use Rattle.trees.proofs.Numbered.{counted}
 use Rattle.trees.proofs.Sets.{error_set, option_set}
 use Rattle.layout.specs.declared.frame.Role.TheVariants.{Linked}
 use Rattle.layout.specs.declared.frame.Frame.{Frame}
-use Rattle.layout.specs.Layout.{blank, frame_of, Held}
+use Rattle.layout.specs.Layout.{blank, Held}
 use Rattle.layout.specs.Placed.{Placed}
 use Rattle.frames.specs.declared.store.Frames.{Frames}
 use Rattle.frames.specs.Of.{frames_of, reports_of}
 use Rattle.frames.proofs.Placed.{placed_in}
-use Rattle.nodes.specs.Rows.{Rows, count}
-use Rattle.nodes.specs.Breadth.{Item, Item_is_set, Entry, item, under, breadth_first}
+use Rattle.nodes.specs.Rows.{count}
+use Rattle.nodes.specs.Breadth.{Item, Item_is_set, Entry, under}
 use Rattle.nodes.specs.Nodes.{FrameContent, FrameContent_is_set, frame_rows}
 use Rattle.nodes.specs.Queue.{queue}
 use Rattle.nodes.proofs.Queue.{breadth_queue}

@@ -1,5 +1,5 @@
 -- The frames of a report in breadth-first order.
-use Rattle.std.specs.Prelude.{◌≡◌, ℕ, ◌+◌, ◌<◌, ◌≤◌, List, [], ◌∷◌, ◌++◌, map, length, take, drop, Some, None, Option, slice_index_or}
+use Rattle.std.specs.Prelude.{◌≡◌, ℕ, ◌+◌, ◌≤◌, List, [], ◌∷◌, map, length, take, drop, Some, None, Option, slice_index_or}
 use Rattle.trees.specs.Counting.{in_report}
 use Rattle.trees.specs.Trees.{Tree}
 use Rattle.trees.specs.Numbered.{Numbered, none, node, head_of}

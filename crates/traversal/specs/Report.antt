@@ -1,5 +1,5 @@
 -- What is left in a list that is to take the nodes of a report.
-use Rattle.std.specs.Prelude.{◌≡◌, ℕ, List, ◌++◌, length, drop, Some, None, Ok, Err, Option, Result}
+use Rattle.std.specs.Prelude.{◌≡◌, ℕ, List, ◌++◌, length, drop, Some, None, Ok, Err, Result}
 use Rattle.vocabulary.specs.declared.fault.StoreFault.{StoreFault}
 use Rattle.model.specs.Host.{Errors}
 use Rattle.trees.specs.Trees.{Tree}

@@ -1,5 +1,5 @@
 -- Joining, taking and draining, on trees and on rows of reports.
-use Rattle.std.specs.Prelude.{ℕ, List, [], ◌∷◌, ◌++◌, Some, None, Option, nat_eq}
+use Rattle.std.specs.Prelude.{ℕ, [], ◌∷◌, ◌++◌, Some, None, Option, nat_eq}
 use Rattle.std.specs.Map.{update}
 use Rattle.trees.specs.Trees.{Forest, empty, Tree, ◌then◌, leaf, Listing, forest}
 

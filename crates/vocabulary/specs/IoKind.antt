@@ -1,5 +1,5 @@
 -- The sixteen io kinds with their numbers and names, and what an io error of each kind is by itself.
-use Rattle.std.specs.Prelude.{ℕ, Bool, cond, ◌&&◌, List, [], ◌∷◌, Some, None, Option, ◌==◌, nat_le}
+use Rattle.std.specs.Prelude.{ℕ, Bool, cond, ◌&&◌, List, [], ◌∷◌, None, Option, ◌==◌, nat_le}
 use Rattle.std.specs.List.{slice_get}
 use Rattle.classes.specs.Ascii.{ascii}
 use Rattle.classes.specs.Class.{class_at}

@@ -1,12 +1,9 @@
 -- The five kinds of error, and the numbers by which a record names one.
-use Rattle.std.specs.Prelude.{ℕ, Bool, true, false, cond, List, [], ◌∷◌, Some, None, Option, ◌==◌}
+use Rattle.std.specs.Prelude.{ℕ, Bool, true, false, cond, List, Some, None, Option, ◌==◌}
 use Rattle.std.specs.Option.{option_map}
-use Rattle.std.specs.List.{slice_get}
 use Rattle.classes.specs.Ascii.{ascii}
 use Rattle.classes.specs.Class.{class_at}
 use Rattle.vocabulary.specs.IoKind.{io_kind_at}
-use Rattle.classes.specs.declared.class.Class.{Class}
-use Rattle.vocabulary.specs.declared.io_kind.IoKind.{IoKind}
 use Rattle.vocabulary.specs.declared.kind.Kind.{Kind}
 use Rattle.vocabulary.specs.declared.kind.Kind.TheVariants.{Plain, Message, ClassificationMarker, TryReserveError, Io}
 

@@ -1,5 +1,5 @@
 -- What a retry policy is asked, and what the two standard policies accept.
-use Rattle.std.specs.Prelude.{ℕ, Bool, true, false, ◌||◌, Some, None, Option, ◌==◌}
+use Rattle.std.specs.Prelude.{ℕ, Bool, false, ◌||◌, Some, None, Option, ◌==◌}
 use Rattle.vocabulary.specs.IoKind.{between, io_number}
 use Rattle.classes.specs.Class.{rank}
 use Rattle.classes.specs.declared.class.Class.{Class}

@@ -1,7 +1,6 @@
-use Rattle.std.proofs.Common.{◌≡◌, ℕ, ◌<◌, ◌≤◌, min, List, ◌++◌, length, take, drop, sym, refl, ap, ◌∙◌, subst, arith}
+use Rattle.std.proofs.Common.{ℕ, min, List, ◌++◌, length, drop, sym, refl, ap, ◌∙◌, subst, arith}
 use Rattle.nodes.specs.declared.node.Node.{Node}
 use Rattle.nodes.specs.Begins.{FirstBad, Flat}
-use Rattle.store.specs.Chains.{nodes_in}
 use Rattle.store.proofs.Fronts.{front_nodes, front_part, front_length}
 use Rattle.chains.proofs.Shown.{errors_of_lem}
 use Rattle.chains.proofs.iter.iter_chain_errors.Goals as goal

@@ -1,4 +1,4 @@
-use Rattle.std.proofs.Common.{arith, rules}
+use Rattle.std.proofs.Common.{rules}
 use Rattle.drive_host.proofs.Labels.{one_digit, two_digits}
 use Rattle.drive_host.proofs.drive.spell.Goals as goal
 

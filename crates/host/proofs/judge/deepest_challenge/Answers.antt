@@ -1,4 +1,4 @@
-use Rattle.std.proofs.Common.{ℕ, List, Ok, Option, sym, ap, ◌∙◌}
+use Rattle.std.proofs.Common.{ℕ, List, Ok, sym, ap, ◌∙◌}
 use Rattle.model.specs.Challenge.{deepest, or}
 use Rattle.model.proofs.Steps.{step}
 use Rattle.host.proofs.Chains.{deepest_again, no_chain, constantly}

@@ -1,7 +1,4 @@
-use Rattle.std.proofs.Common.{◌≡◌, ℕ, Bool, ◌||◌, List, Ok, sym, refl, ap, ◌∙◌}
-use mathlib.Core.Bool.{or-false}
-use Rattle.classes.specs.Class.{lesser}
-use Rattle.model.specs.Judge.{any_pair, least_class, pairs_of}
+use Rattle.std.proofs.Common.{◌≡◌, Ok, refl, ap, ◌∙◌}
 use Rattle.model.proofs.Steps.{step, live_since, answered}
 use Rattle.host.specs.declared.judge.Findings.{Findings}
 use Rattle.host.proofs.Chains.{begins_decided, class_again, accepted_again, decided_next, class_all, accepted_all, constantly}

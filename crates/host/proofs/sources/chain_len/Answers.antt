@@ -1,4 +1,4 @@
-use Rattle.std.proofs.Common.{◌≡◌, ℕ, ◌+◌, ◌≤◌, List, length, Some, Ok, sym, refl, ap, ◌∙◌, arith, rules}
+use Rattle.std.proofs.Common.{◌≡◌, ℕ, ◌+◌, List, length, Some, Ok, refl, ap, ◌∙◌, arith, rules}
 use Rattle.model.specs.Sources.{bound, chain, chain_from}
 use Rattle.model.proofs.Sources.{chain_short}
 use Rattle.model.proofs.Steps.{next_is}

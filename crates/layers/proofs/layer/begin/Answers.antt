@@ -1,4 +1,4 @@
-use Rattle.std.proofs.Common.{ℕ, min, ap, ◌∙◌, rules}
+use Rattle.std.proofs.Common.{ℕ, min, ap, ◌∙◌}
 use native.Mathlib.Nat.{min-eq_left}
 use Rattle.layers.specs.LayerHost.{empty_layer}
 use Rattle.layers.proofs.layer.begin.Goals as goal

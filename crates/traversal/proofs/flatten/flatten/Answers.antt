@@ -1,11 +1,7 @@
-use Rattle.std.proofs.Common.{◌≡◌, ℕ, ◌≤◌, map, length, take, sym, refl, ap, ◌∙◌, subst, arith, length-set, rules}
+use Rattle.std.proofs.Common.{refl, arith, length-set}
 use mathlib.Core.Logic.{∥∥₁_elim, ∥∥₁_map}
 use native.Mathlib.Bridge.{le_prop}
-use Rattle.std.proofs.lemmas.List.{length-map, length-take-le}
-use Rattle.trees.specs.Trees.{Tree}
-use Rattle.traversal.specs.Order.{visited}
-use Rattle.traversal.specs.Spread.{Begun}
-use Rattle.traversal.proofs.Spreads.{order_few, room, root_of, spread_none, spread_more, spread_all, waits, w, flat}
+use Rattle.traversal.proofs.Spreads.{order_few, room, spread_none, spread_more, spread_all, waits, w, flat}
 use Rattle.traversal.proofs.flatten.flatten.Goals as goal
 
 pub bounds-list-0 : goal.bounds-list-0

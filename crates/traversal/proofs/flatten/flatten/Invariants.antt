@@ -1,4 +1,4 @@
-use Rattle.std.proofs.Common.{◌≡◌, map, length, take}
+use Rattle.std.proofs.Common.{map, length, take}
 use Rattle.trees.specs.Trees.{Tree}
 use Rattle.traversal.specs.Order.{visited}
 use Rattle.traversal.specs.Spread.{Begun, Spread}

@@ -1,4 +1,4 @@
-use Rattle.std.proofs.Common.{Option, sym, refl, subst, arith, rules}
+use Rattle.std.proofs.Common.{Option, sym, subst, arith, rules}
 use mathlib.Core.Logic.{∥∥₁_elim, ∥∥₁_map}
 use native.Mathlib.Bridge.{le_prop}
 use mir.ValLaws.{Fits-prop}

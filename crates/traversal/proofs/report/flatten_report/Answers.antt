@@ -1,4 +1,3 @@
-use Rattle.std.proofs.Common.{◌≡◌, sym, refl, ap, ◌∙◌, subst, arith, rules}
 use Rattle.traversal.proofs.Reports.{there, order_is, begun, counted, no_cause}
 use Rattle.traversal.proofs.report.flatten_report.Goals as goal
 

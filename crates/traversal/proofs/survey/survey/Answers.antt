@@ -1,10 +1,8 @@
-use Rattle.std.proofs.Common.{◌≡◌, ℕ, ◌<◌, ◌≤◌, List, ◌∷◌, length, get_or, drop, Ok, Err, sym, ap, ◌∙◌, subst, arith, rules}
+use Rattle.std.proofs.Common.{◌≡◌, ℕ, length, get_or, Ok, Err, sym, ap, ◌∙◌, arith, rules}
 use Rattle.std.proofs.lemmas.Result.{err_from_is_err_and}
 use Rattle.vocabulary.specs.FrameError.{error_number}
 use Rattle.model.specs.Host.{answer}
 use Rattle.model.specs.Sources.{chain}
-use Rattle.nodes.specs.Breadth.{Item}
-use Rattle.nodes.specs.Nodes.{FrameContent}
 use Rattle.traversal.specs.Order.{visited}
 use Rattle.traversal.specs.Survey.{survey_from}
 use Rattle.traversal.specs.Walk.{unvisited}

@@ -1,4 +1,4 @@
-use Rattle.std.proofs.Common.{ℕ, Option, sym, refl, ap, subst}
+use Rattle.std.proofs.Common.{ℕ, Option, sym, refl, subst}
 use Rattle.store.specs.Store.{ledger_of, Became}
 use Rattle.ledger.specs.Ledger.{chained_all}
 use Rattle.store.proofs.Baskets.{joins_none}

@@ -1,4 +1,4 @@
-use Rattle.std.proofs.Common.{◌≡◌, ℕ, true, Some, Option, sym, refl, ap, ◌∙◌, subst}
+use Rattle.std.proofs.Common.{ℕ, Option, sym, refl, ap, ◌∙◌, subst}
 use Rattle.frames.specs.Of.{frames_of}
 use Rattle.ledger.specs.Causes.{is_row}
 use Rattle.ledger.specs.Ledger.{collected, longer}

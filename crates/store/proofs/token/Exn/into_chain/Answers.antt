@@ -1,4 +1,4 @@
-use Rattle.std.proofs.Common.{sym, refl, ◌∙◌}
+use Rattle.std.proofs.Common.{sym, refl}
 use Rattle.std.proofs.lemmas.Bool.{and_parts}
 use Rattle.traversal.proofs.Reports.{there}
 use Rattle.store.proofs.Chains.{chain_of}

@@ -1,4 +1,4 @@
-use Rattle.std.proofs.Common.{◌<◌, length, vec_items, vec_len, refl, arith}
+use Rattle.std.proofs.Common.{◌<◌, length, vec_items, refl, arith}
 use Rattle.std.proofs.lemmas.Option.{slice_get_read}
 use Rattle.table_host.specs.TableLaws.{live-read, mark_true}
 use Rattle.table_host.proofs.table.TableHost.record.Goals as goal

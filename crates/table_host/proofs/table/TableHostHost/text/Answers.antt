@@ -1,4 +1,4 @@
-use Rattle.std.proofs.Common.{◌≡◌, ℕ, ◌+◌, ◌-◌, ◌≤◌, List, length, take, drop, vec_items, ap, ◌∙◌, arith, rules}
+use Rattle.std.proofs.Common.{◌≡◌, ℕ, ◌+◌, ◌-◌, List, length, take, drop, vec_items, ap, ◌∙◌, arith, rules}
 use Rattle.table_host.specs.TableLaws.{text_fits_lem, text_answered, text_filled_lem}
 use Rattle.table_host.proofs.table.TableHostHost.text.Goals as goal
 
