@@ -30,6 +30,7 @@ use Rattle.layout.proofs.Count.{count_is}
 use Rattle.layout.proofs.Free as freeing
 use Rattle.layout.proofs.Free.{freed_frames, begun_frames, First, first_free, none_free}
 use Rattle.layout.proofs.Told.{report_no_row}
+use Rattle.layout.proofs.Means.{turned}
 use Rattle.layout.proofs.Rows.{report_below, report_frame, report_is, rowed_layout, rowed_means}
 
 pub means_prop : (fs : List Frame) (g : ℕ → Option Tree) (h : ℕ → Option Listing) → IsProp (Means fs g h)
@@ -209,16 +210,19 @@ module _ {fs : List Frame} {head : Option ℕ} {count : ℕ} (sound : Sound fs h
     push_means gs e = rw e (∥∥₁_elim sound (means_prop _ _ _) (λ l. joins.pushed_tells (both l).laid))
 
 -- two calls, one after the other
-cond_twice : {A : Type 0} (j y : ℕ) (w : Option A) (f : ℕ → Option A) → f y ≡ None → cond (eqb y j) None (cond (eqb y j) w (f j)) ≡ f j
+cond_twice : {A : Type 0} (j y : ℕ) (w : Option A) (f : ℕ → Option A) → f y ≡ None → cond (eqb j y) None (cond (eqb j y) w (f j)) ≡ f j
 cond_twice j y w f n = ⊎_elim
-    (λ q. cond-true (eqb y j) _ _ (eq-eqb y j q) ∙ sym (ap f (sym q) ∙ n))
-    (λ q. cond-false (eqb y j) _ _ (ne_eqb y j q) ∙ cond-false (eqb y j) _ _ (ne_eqb y j q))
-    (cases_eq y j)
+    (λ q. cond-true (eqb j y) _ _ (eq-eqb j y q) ∙ sym (ap f q ∙ n))
+    (λ q. cond-false (eqb j y) _ _ (ne_eqb j y q) ∙ cond-false (eqb j y) _ _ (ne_eqb j y q))
+    (cases_eq j y)
 
 -- a row that was made of a report is gone again
 pub row_gone : (fs gs : List Frame) (y : ℕ) → is_some (reports fs y) ≡ true → Means gs (update eqb (reports fs) y None) (update eqb (rows fs) y (alone y (reports fs y)))
     → (j : ℕ) → update eqb (rows gs) y None j ≡ rows fs j
-row_gone fs gs y s m j = ap (λ (x : Option Listing). cond (eqb y j) None x) (m.rows j) ∙ cond_twice j y _ (rows fs) (report_no_row fs y s)
+row_gone fs gs y s m j =
+    sym (turned j y None (rows gs j))
+    ∙ ap (λ (x : Option Listing). cond (eqb j y) None x) (m.rows j ∙ sym (turned j y _ (rows fs j)))
+    ∙ cond_twice j y _ (rows fs) (report_no_row fs y s)
 
 pub join_both : (fs gs hs : List Frame) (x y : ℕ) → is_some (reports fs y) ≡ true → (x ≡ y → ⊥)
     → Means gs (update eqb (reports fs) y None) (update eqb (rows fs) y (alone y (reports fs y)))

@@ -13,7 +13,7 @@ use Rattle.layout.specs.Layout.{blank, frame_of, Held, Block, report, row, talli
 use Rattle.layout.specs.Reports.{reports, rows, Means}
 use Rattle.layout.proofs.Held.{held_set, stand_set, stand_changed, held_role, length-changed, join, joins, off_last, last_below, within_last}
 use Rattle.layout.proofs.Told.{told, absent}
-use Rattle.layout.proofs.Means.{gone, added, first_below, first_once}
+use Rattle.layout.proofs.Means.{gone_key, added_key, first_below, first_once}
 use Rattle.layout.specs.Calls.{Begun}
 use Rattle.layout.proofs.Split.{not_among}
 use Rattle.layout.proofs.Count.{count_is}
@@ -65,7 +65,7 @@ module _ {fs : List Frame} {head : Option ℕ} {count x : ℕ} {e : FrameError} 
       let m = freed_laid in
       record {
         reports = λ j. (told m j).0 ∙ sym (told l j).0;
-        rows = λ j. (told m j).1 ∙ gone j x _ _ _ (λ w. subst (λ (y : ℕ). row_at y rest ≡ None) (sym w) (first_once l x refl).1) (told l j).1;
+        rows = λ j. (told m j).1 ∙ gone_key j x _ _ _ (λ w. subst (λ (y : ℕ). row_at y rest ≡ None) (sym w) (first_once l x refl).1) (told l j).1;
       }
 
 -- the first free frame
@@ -149,7 +149,7 @@ module _ {fs : List Frame} {head : Option ℕ} {count i : ℕ} {live : List Bloc
         below = free-below;
         fresh = record { report = (told l i).0 ∙ (absent live i z).0; row = λ h. ap (λ (u : Option Listing). among i (list_of u)) (told l h).1 ∙ not_among live i h z };
         means = record {
-          reports = λ j. (told begun_laid j).0 ∙ added j i _ _ _ _ refl (sym (told l j).0);
+          reports = λ j. (told begun_laid j).0 ∙ added_key j i _ _ _ _ refl (sym (told l j).0);
           rows = λ j. (told begun_laid j).1 ∙ sym (told l j).1;
         };
       }

@@ -14,7 +14,7 @@ use Rattle.layout.specs.Reports.{reports, rows, Means}
 use Rattle.layout.specs.Calls.{under, alone, joined}
 use Rattle.layout.proofs.Held.{held_set, held-changed, stand_set, stand_changed, held_role, length-changed, join, joins, off_last, last_below, within_last}
 use Rattle.layout.proofs.Told.{told, absent}
-use Rattle.layout.proofs.Means.{covered, gone, found, first_below}
+use Rattle.layout.proofs.Means.{covered_key, gone_key, found, first_below}
 
 -- the frames after the row at `y` was put under `x`, whose root frame is now `top`
 abbrev pub joined_at : List Frame → ℕ → ℕ → Option ℕ → Frame → List Frame
@@ -122,8 +122,8 @@ module _ {fs : List Frame} {head : Option ℕ} {count x y : ℕ} {e : FrameError
       ap (λ (c : Forest). Some (record { error = e; place = p; children = c })) (shape_beside k (node y f q m r) ∙ ap (λ (c : Forest). shape k then c) (sym (forest-listing (node y f q m r))))
       ∙ sym (ap₂ under x_is y_is) in
       record {
-        reports = λ j. (told a j).0 ∙ covered j x _ _ _ _ _ tree_is (told l j).0;
-        rows = λ j. (told a j).1 ∙ gone j y _ _ _ (λ w. subst (λ (z : ℕ). row_at z rest ≡ None) (sym w) none_y) (told l j).1;
+        reports = λ j. (told a j).0 ∙ covered_key j x _ _ _ _ _ tree_is (told l j).0;
+        rows = λ j. (told a j).1 ∙ gone_key j y _ _ _ (λ w. subst (λ (z : ℕ). row_at z rest ≡ None) (sym w) none_y) (told l j).1;
       }
 
   x_frame : get_or fs x blank ≡ frame_of Report e p k none
@@ -187,8 +187,8 @@ module _ {fs : List Frame} {head : Option ℕ} {count x y : ℕ} {e : FrameError
       let row_is : Some (listing (node y f q m (r beside node x e p k none))) ≡ joined (rows fs y) (alone x (reports fs x)) =
       ap (λ (z : Listing). Some ((y, tree_of f q m) ∷ z)) (listing_beside r (node x e p k none)) ∙ sym (ap₂ (λ (u : Option Listing) (t : Option Tree). joined u (alone x t)) y_is x_is) in
       record {
-        reports = λ j. (told a j).0 ∙ gone j x _ _ _ (λ w. subst (λ (z : ℕ). report_at z rest ≡ None) (sym w) none_x) (told l j).0;
-        rows = λ j. (told a j).1 ∙ covered j y _ _ _ _ _ row_is (told l j).1;
+        reports = λ j. (told a j).0 ∙ gone_key j x _ _ _ (λ w. subst (λ (z : ℕ). report_at z rest ≡ None) (sym w) none_x) (told l j).0;
+        rows = λ j. (told a j).1 ∙ covered_key j y _ _ _ _ _ row_is (told l j).1;
       }
 
   pushed_size : row_size (get_or fs y blank).role + (get_or fs x blank).size ≡ size (node y f q m r) + (size k + 1)

@@ -6,6 +6,23 @@ use Rattle.layout.specs.declared.frame.Frame.{Frame}
 use Rattle.layout.specs.Layout.{Block, nodes, role_of, Held, Laid, report_at, row_at}
 use Rattle.layout.proofs.Told.{absent, first_counts}
 
+-- an update covers what stood there
+pub covered : {A : Type 0} (b : Bool) (v v' w z u : A) → v ≡ v' → u ≡ cond b w z → cond b v z ≡ cond b v' u
+covered true v v' w z u p q = p
+covered false v v' w z u p q = sym q
+
+-- what is gone was there once
+pub gone : {A : Type 0} (j x : ℕ) (w z u : Option A) → (j ≡ x → z ≡ None) → u ≡ cond (eqb j x) w z → z ≡ cond (eqb j x) None u
+gone j x w z u n q =
+    ⊎_elim
+    (λ e. n e ∙ sym (cond-true (eqb j x) None u (eq-eqb j x e)))
+    (λ e. sym (cond-false (eqb j x) w z (ne_eqb j x e)) ∙ sym q ∙ sym (cond-false (eqb j x) None u (ne_eqb j x e)))
+    (cases_eq j x)
+
+-- an update where nothing stood
+pub added : {A : Type 0} (b : Bool) (v v' z u : A) → v ≡ v' → z ≡ u → cond b v z ≡ cond b v' u
+added b v v' z u p q = ap₂ (cond b) p q
+
 eqb_swap : (a b : ℕ) → eqb a b ≡ eqb b a
 eqb_swap a b =
     ⊎_elim
@@ -13,30 +30,19 @@ eqb_swap a b =
     (λ e. ne_eqb a b e ∙ sym (ne_eqb b a (λ q. e (sym q))))
     (cases_eq a b)
 
--- blocks test the number asked for against a root, an update the root against the number
+-- blocks test the number asked for against a root, an update its key against that number
 pub turned : {A : Type 0} (j x : ℕ) (v z : A) → cond (eqb j x) v z ≡ cond (eqb x j) v z
 turned j x v z = ap (λ (b : Bool). cond b v z) (eqb_swap j x)
 
-over : {A : Type 0} (b : Bool) (v v' w z u : A) → v ≡ v' → u ≡ cond b w z → cond b v z ≡ cond b v' u
-over true v v' w z u p q = p
-over false v v' w z u p q = sym q
+-- the same three, as updates at the key `x`
+pub covered_key : {A : Type 0} (j x : ℕ) (v v' w z u : A) → v ≡ v' → u ≡ cond (eqb j x) w z → cond (eqb j x) v z ≡ cond (eqb x j) v' u
+covered_key j x v v' w z u p q = covered (eqb j x) v v' w z u p q ∙ turned j x v' u
 
--- an update covers what stood there
-pub covered : {A : Type 0} (j x : ℕ) (v v' w z u : A) → v ≡ v' → u ≡ cond (eqb j x) w z → cond (eqb j x) v z ≡ cond (eqb x j) v' u
-covered j x v v' w z u p q = over (eqb j x) v v' w z u p q ∙ turned j x v' u
+pub gone_key : {A : Type 0} (j x : ℕ) (w z u : Option A) → (j ≡ x → z ≡ None) → u ≡ cond (eqb j x) w z → z ≡ cond (eqb x j) None u
+gone_key j x w z u n q = gone j x w z u n q ∙ turned j x None u
 
--- what is gone was there once
-pub gone : {A : Type 0} (j x : ℕ) (w z u : Option A) → (j ≡ x → z ≡ None) → u ≡ cond (eqb j x) w z → z ≡ cond (eqb x j) None u
-gone j x w z u n q =
-    ⊎_elim
-    (λ e. n e ∙ sym (cond-true (eqb j x) None u (eq-eqb j x e)))
-    (λ e. sym (cond-false (eqb j x) w z (ne_eqb j x e)) ∙ sym q ∙ sym (cond-false (eqb j x) None u (ne_eqb j x e)))
-    (cases_eq j x)
-    ∙ turned j x None u
-
--- an update where nothing stood
-pub added : {A : Type 0} (j x : ℕ) (v v' z u : A) → v ≡ v' → z ≡ u → cond (eqb j x) v z ≡ cond (eqb x j) v' u
-added j x v v' z u p q = ap₂ (cond (eqb j x)) p q ∙ turned j x v' u
+pub added_key : {A : Type 0} (j x : ℕ) (v v' z u : A) → v ≡ v' → z ≡ u → cond (eqb j x) v z ≡ cond (eqb x j) v' u
+added_key j x v v' z u p q = added (eqb j x) v v' z u p q ∙ turned j x v' u
 
 pub found : {A : Type 0} (x : ℕ) (v z u : A) → u ≡ cond (eqb x x) v z → u ≡ v
 found x v z u q = q ∙ cond-true (eqb x x) v z (eq-eqb x x refl)

@@ -13,7 +13,7 @@ use Rattle.layout.specs.Reports.{reports, rows, Means}
 use Rattle.layout.specs.Calls.{alone}
 use Rattle.layout.proofs.Held.{held_set, stand_set, held_role}
 use Rattle.layout.proofs.Told.{told}
-use Rattle.layout.proofs.Means.{gone, added, found, first_below, first_once}
+use Rattle.layout.proofs.Means.{gone_key, added_key, found, first_below, first_once}
 
 module _ {fs : List Frame} {head : Option ℕ} {count x : ℕ} {e : FrameError} {p : ℕ} {k : Numbered} {rest : List Block} {free : Numbered}
     (l : Laid fs head count (report x e p k ∷ rest) free) where
@@ -49,6 +49,6 @@ module _ {fs : List Frame} {head : Option ℕ} {count x : ℕ} {e : FrameError} 
   rowed_means n q =
       let m = rowed_layout n q in
       record {
-        reports = λ j. (told m j).0 ∙ gone j x _ _ _ (λ w. subst (λ (y : ℕ). report_at y rest ≡ None) (sym w) (first_once l x refl).0) (told l j).0;
-        rows = λ j. (told m j).1 ∙ added j x _ _ _ _ (sym (ap (alone x) report_is)) (sym (told l j).1);
+        reports = λ j. (told m j).0 ∙ gone_key j x _ _ _ (λ w. subst (λ (y : ℕ). report_at y rest ≡ None) (sym w) (first_once l x refl).0) (told l j).0;
+        rows = λ j. (told m j).1 ∙ added_key j x _ _ _ _ (sym (ap (alone x) report_is)) (sym (told l j).1);
       }

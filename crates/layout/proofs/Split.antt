@@ -15,7 +15,7 @@ use Rattle.layout.specs.Reports.{reports, rows, Means}
 use Rattle.layout.specs.Calls.{first_of, rest_of, opened, bare, children_of, Fresh, taken, Drained}
 use Rattle.layout.proofs.Held.{held_set, held-changed, stand_set, held_role, length-changed, off_head, within_last, within_head, tally_past}
 use Rattle.layout.proofs.Told.{told, absent}
-use Rattle.layout.proofs.Means.{covered, gone, added, found, turned, first_below, first_once}
+use Rattle.layout.proofs.Means.{covered_key, gone_key, added_key, found, turned, first_below, first_once}
 
 -- a forest as a row, if it has any tree
 abbrev pub rowed : Numbered → List Block → List Block
@@ -154,9 +154,9 @@ module _ {fs : List Frame} {head : Option ℕ} {count x : ℕ} {e : FrameError} 
       let m = popped_layout in
       let n = first_once l x refl in
       record {
-        reports = λ j. (told m j).0 ∙ added j x _ _ _ _ (sym (ap first_of row_is)) (reports_rowed j r rest ∙ sym (told l j).0);
+        reports = λ j. (told m j).0 ∙ added_key j x _ _ _ _ (sym (ap first_of row_is)) (reports_rowed j r rest ∙ sym (told l j).0);
         rows = λ j. (told m j).1
-            ∙ rows_rowed (update eqb (rows fs) x None) j r rest (λ i. gone i x _ _ _ (λ w. subst (λ (y : ℕ). row_at y rest ≡ None) (sym w) n.1) (told l i).1)
+            ∙ rows_rowed (update eqb (rows fs) x None) j r rest (λ i. gone_key i x _ _ _ (λ w. subst (λ (y : ℕ). row_at y rest ≡ None) (sym w) n.1) (told l i).1)
             ∙ ap (λ (z : Option Listing). opened (update eqb (rows fs) x None) (rest_of z) j) (sym row_is);
       }
 
@@ -229,7 +229,7 @@ module _ {fs : List Frame} {head : Option ℕ} {count x : ℕ} {e : FrameError} 
     fresh = λ n a. children_fresh n (sym (ap (among n) row_of_children) ∙ a);
     means = record {
       reports = λ j. (told drained_laid j).0 ∙ ap (λ (z : Option Tree). cond (eqb j x) (Some (leaf e p)) z) (reports_rowed j k rest)
-          ∙ covered j x _ _ _ _ _ (sym (ap bare top_is)) (told l j).0;
+          ∙ covered_key j x _ _ _ _ _ (sym (ap bare top_is)) (told l j).0;
       rows = λ j. (told drained_laid j).1 ∙ rows_rowed (rows fs) j k rest (λ i. sym (told l i).1) ∙ ap (λ (z : Listing). opened (rows fs) z j) (sym row_of_children);
     };
   })
