@@ -53,6 +53,7 @@ impl Frames {
     }
 
     // Whether `n` is the root of a report in no row.
+    #[tactic(auto, using(layout::proofs::Told::report_says))]
     pub fn is_report(&self, n: u16) -> bool
         ensures { result ≡ is_some (reports self.now.frames n) }
     {
@@ -63,6 +64,7 @@ impl Frames {
     }
 
     // Whether `n` is the root of the first report of a row.
+    #[tactic(auto, using(layout::proofs::Told::row_says))]
     pub fn is_row(&self, n: u16) -> bool
         ensures { result ≡ is_some (rows self.now.frames n) }
     {
@@ -121,6 +123,7 @@ impl Frames {
     }
 
     // Makes a report the last child of the root of another.
+    #[tactic(auto, using(layout::proofs::Calls::join_both))]
     pub fn join(&mut self, x: u16, y: u16)
         requires first { is_some (reports self.old.frames x) ≡ true }
         requires second { is_some (reports self.old.frames y) ≡ true }
@@ -186,6 +189,7 @@ impl Frames {
     }
 
     // Frees all frames of a report.
+    #[tactic(auto, using(layout::proofs::Calls::discard_both))]
     pub fn discard(&mut self, x: u16)
         requires { is_some (reports self.old.frames x) ≡ true }
         ensures { Means self.new.frames

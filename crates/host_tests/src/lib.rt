@@ -22,6 +22,6 @@ pub fn reading<H: Host>(host: &H, error: u16) -> Result<(Option<u8>, bool, bool)
 #[cfg(test)]
 mod judged;
 #[cfg(test)]
-mod layers;
+mod layered;
 #[cfg(test)]
 mod tables;

@@ -3,7 +3,7 @@ ghost use Rattle.trees.specs.Listings.{rest_of};
 ghost use Rattle.trees.specs.Trees.{first_root};
 ghost use Rattle.layout.specs.Invariant.{WellFormed};
 ghost use Rattle.ledger.specs.Causes.{is_basket, is_held, is_row};
-ghost use Rattle.ledger.specs.Ledger.{chained_all, collected, free as freeIn, longer, nothing, row_of, taken};
+ghost use Rattle.ledger.specs.Ledger.{chained_all, collected, free as free_in, longer, nothing, row_of, taken};
 ghost use Rattle.store.specs.Calls.{FrameMade, held_root};
 ghost use Rattle.store.specs.Store.{ledger_of, Became, Holds};
 
@@ -34,7 +34,7 @@ impl Store {
 
     // How many frames are free: 1,024 less the frames of all trees.
     pub fn free(&self) -> usize
-        ensures { result ≡ freeIn (ledger_of self.now) }
+        ensures { result ≡ free_in (ledger_of self.now) }
     {
         self.frames.free()
     }

@@ -1,4 +1,4 @@
-ghost use Rattle.std.specs.Prelude.{◌≡◌, ℕ, Bool, false, ◌&&◌, length, get_or, IfOk, Ok, Err, vec_len, slice_index_or};
+ghost use Rattle.std.specs.Prelude.{◌≡◌, ℕ, Bool, false, ◌&&◌, length, IfOk, Ok, Err, vec_len, slice_index_or};
 ghost use Rattle.table_host.specs.Table.{live as live_in, record_fits, source_live, table_errors, table_span, RecordRead};
 ghost use Rattle.table_host.specs.TableLaws.{table_lawful};
 ghost use Rattle.vocabulary.specs.declared.fault.LayerFault.TheVariants.{Full};
@@ -51,7 +51,7 @@ fn is_marked(live: &[bool], error: u16) -> bool
 
 // Whether the record of number `error` is live, where those before it are marked.
 fn lives(live: &[bool], record: &Record, error: u16, size: usize) -> bool
-    ensures { result ≡ record_fits size error «record».now && source_live (λ d. get_or live.now d false) «record».now.source }
+    ensures { result ≡ record_fits size error «record».now && source_live (λ d. slice_index_or live.now d false) «record».now.source }
 {
     if !record.fits(error, size) {
         return false;

@@ -6,6 +6,3 @@ use Rattle.frames.proofs.store.Frames.is_report.Goals as goal
 
 pub returns-then-n-ge1024 : goal.returns-then-n-ge1024
 returns-then-n-ge1024 c = sym (ap is_report (past_role c.args.self.now.sound c.args.n c.if-n-ge1024.true)) ∙ report_says _ _
-
-pub returns : goal.returns
-returns c = c.is_report.ensures ∙ report_says _ _
