@@ -1,6 +1,7 @@
 // Numbers at each edge of the drive host and of the layers.
 use drive_host::drive::DriveHost;
-use host::host::Host;
+use host::host::{GrowingHost, Host};
+use layers::addition::LayerAddition;
 use layers::marked::Marked;
 use layers::wrapped::Wrapped;
 use std::test::Fail;
@@ -39,6 +40,27 @@ fn short_parts(rt: HostRuntime) {
     assert_eq!(rt; part, *b"gate 9");
     assert_eq!(rt; DriveHost.text(48, &mut part), Err(HostFault::NotLive(48)));
     assert_eq!(rt; part, *b"gate 9");
+}
+
+// The drive gains no errors, and a layer over it hands its refusal up while it has room of its own.
+#[test]
+fn additions_to_the_drive(rt: HostRuntime) {
+    let mut drive = DriveHost;
+    assert_eq!(rt; drive.add(()), Err(LayerFault::Full(0)));
+    let mut marked = Marked::new(DriveHost);
+    assert_eq!(rt;
+        marked.add(LayerAddition::Below(())),
+        Err(LayerFault::Full(0))
+    );
+    assert_eq!(rt;
+        marked.add(LayerAddition::Wrap { error: 6, value: 0 }),
+        Ok(48)
+    );
+    assert_eq!(rt;
+        marked.add(LayerAddition::Below(())),
+        Err(LayerFault::Full(0))
+    );
+    assert_eq!(rt; marked.source(48), Ok(Some(6)));
 }
 
 #[test]
