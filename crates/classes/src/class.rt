@@ -1,5 +1,12 @@
-ghost use Rattle.std.specs.Prelude.{◌≡◌, nat_lt};
+ghost use Rattle.std.specs.Prelude.{◌≡◌, Some, nat_lt, ok_or};
+ghost use Rattle.std.specs.Fmt.{styled_text};
 ghost use Rattle.classes.specs.Class.{class_at, class_name, exhaustion_name, lesser, rank as rank_of};
+
+use std::fmt;
+
+// A number that names no class and, for those who name other things by numbers, nothing else of what was asked for.
+#[derive(Clone, Copy, Debug, PartialEq, Eq)]
+pub struct NotNamed(pub u8);
 
 // What ran out: an allocation limit that the application set, or the memory itself.
 #[derive(Clone, Copy, Debug, PartialEq, Eq, PartialOrd, Ord)]
@@ -9,6 +16,7 @@ pub enum ResourceExhaustionKind {
 }
 
 impl ResourceExhaustionKind {
+    // As `Class::name`.
     pub fn name(self) -> &'static str
         ensures { result.now ≡ exhaustion_name self }
     {
@@ -16,6 +24,16 @@ impl ResourceExhaustionKind {
             ResourceExhaustionKind::AllocationLimit => "AllocationLimit",
             ResourceExhaustionKind::AllocationFailure => "AllocationFailure",
         }
+    }
+}
+
+impl fmt::Display for ResourceExhaustionKind {
+    ghost output = { λ k. Some (exhaustion_name k) };
+
+    ghost styled_output = { λ k s. Some (styled_text s (exhaustion_name k)) };
+
+    fn fmt<W: fmt::Write>(&self, f: &mut fmt::Formatter<W>) -> fmt::Result {
+        self.name().fmt(f)
     }
 }
 
@@ -35,7 +53,8 @@ pub enum Class {
 }
 
 impl Class {
-    // The place of the class in the order, from 0 for `Cancelled` to 10 for `Retryable`.
+    // The place of the class in the order, from 0 for `Cancelled` to 10 for `Retryable`. No `From`: `u8::from(class)` would
+    // not say that the number is the rank.
     pub fn rank(self) -> u8
         ensures { result ≡ rank_of self }
     {
@@ -54,27 +73,8 @@ impl Class {
         }
     }
 
-    // The class of a rank, or none above 10.
-    pub fn from_rank(rank: u8) -> Option<Class>
-        ensures { result ≡ class_at rank }
-    {
-        match rank {
-            0 => Some(Class::Cancelled),
-            1 => Some(Class::Corruption),
-            2 => Some(Class::ResourceExhaustion(ResourceExhaustionKind::AllocationLimit)),
-            3 => Some(Class::ResourceExhaustion(ResourceExhaustionKind::AllocationFailure)),
-            4 => Some(Class::Validation),
-            5 => Some(Class::Unsupported),
-            6 => Some(Class::Unauthenticated),
-            7 => Some(Class::PermissionDenied),
-            8 => Some(Class::Conflict),
-            9 => Some(Class::NotFound),
-            10 => Some(Class::Retryable),
-            _ => None,
-        }
-    }
-
-    // The class's own name; the two kinds of resource exhaustion go by the kind's.
+    // The class's own name; the two kinds of resource exhaustion go by the kind's. `Display` prints it; this is for those who
+    // write texts into lent buffers, without a formatter.
     pub fn name(self) -> &'static str
         ensures { result.now ≡ class_name self }
     {
@@ -92,7 +92,7 @@ impl Class {
         }
     }
 
-    // Whether the class stands before another: the derived order is that of the ranks.
+    // Whether the class stands before another. A call of its own, since its contract ties the derived order to the ranks.
     pub fn precedes(self, other: Class) -> bool
         ensures { result ≡ nat_lt (rank_of self) (rank_of other) }
     {
@@ -104,9 +104,42 @@ impl Class {
         ensures { result ≡ lesser a b }
     {
         match (a, b) {
-            (Some(x), Some(y)) => { if y.precedes(x) { Some(y) } else { Some(x) } }
-            (Some(x), None) => Some(x),
-            (None, other) => other,
+            (Some(x), Some(y)) => Some(x.min(y)),
+            (x, y) => x.or(y),
         }
+    }
+}
+
+// The class of a rank; no rank is above 10.
+impl TryFrom<u8> for Class {
+    type Error = NotNamed;
+
+    ghost try_from_gives = { λ n r. r ≡ ok_or (class_at n) (record { 0 = n }) };
+
+    fn try_from(rank: u8) -> Result<Class, NotNamed> {
+        match rank {
+            0 => Ok(Class::Cancelled),
+            1 => Ok(Class::Corruption),
+            2 => Ok(Class::ResourceExhaustion(ResourceExhaustionKind::AllocationLimit)),
+            3 => Ok(Class::ResourceExhaustion(ResourceExhaustionKind::AllocationFailure)),
+            4 => Ok(Class::Validation),
+            5 => Ok(Class::Unsupported),
+            6 => Ok(Class::Unauthenticated),
+            7 => Ok(Class::PermissionDenied),
+            8 => Ok(Class::Conflict),
+            9 => Ok(Class::NotFound),
+            10 => Ok(Class::Retryable),
+            _ => Err(NotNamed(rank)),
+        }
+    }
+}
+
+impl fmt::Display for Class {
+    ghost output = { λ c. Some (class_name c) };
+
+    ghost styled_output = { λ c s. Some (styled_text s (class_name c)) };
+
+    fn fmt<W: fmt::Write>(&self, f: &mut fmt::Formatter<W>) -> fmt::Result {
+        f.pad(self.name())
     }
 }

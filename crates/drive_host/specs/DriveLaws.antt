@@ -1,7 +1,7 @@
 -- The drive host keeps the rules of a host.
-use Rattle.std.specs.Prelude.{◌≡◌, ℕ, ◌+◌, ◌-◌, ◌/◌, ◌%◌, ◌<◌, ◌≤◌, true, false, ltb, List, [], ◌∷◌, ◌++◌, length, is_some, Some, None, Option, nat_lt, refl}
-use Rattle.std.proofs.Common.{sym, ap, subst, ◌∙◌, ⊎_elim, arith, length-append, lt-ltb, le-ltb, ltb-true}
-use Rattle.std.proofs.lemmas.Bool.{cond-true, cond-false, cond_both, cases_lt}
+use Rattle.std.specs.Prelude.{◌≡◌, ℕ, ◌-◌, ◌<◌, ◌≤◌, true, false, ltb, List, ◌++◌, length, is_some, Some, None, Option, nat_lt, refl}
+use Rattle.std.proofs.Common.{ap, subst, arith, length-append, lt-ltb, ltb-true, ltb-false}
+use Rattle.std.proofs.lemmas.Bool.{cond-true, cond_both}
 use Rattle.std.proofs.lemmas.Option.{slice_get-get_or}
 use Rattle.std.specs.Option.{option_map}
 use Rattle.classes.specs.Ascii.{ascii}
@@ -23,17 +23,14 @@ record Good (e : ℕ) (m : Error) : Type 0 where
   open_kind : sourceless m.kind ≡ false
   below : Below e m.source
 
-decimal_short : (k : ℕ) → length (decimal k) ≤ 2
-decimal_short k = cond_both (nat_lt k 10) ((48 + k) ∷ []) ((48 + k / 10) ∷ (48 + k % 10) ∷ []) (λ (ds : List ℕ). length ds ≤ 2) (λ _. omega arith) (λ _. omega arith)
-
 label_short : (word : List ℕ) (k : ℕ) → length word ≤ 6 → length (word ++ decimal k) ≤ 255
-label_short word k h = let d = decimal_short k in simp length-append (omega arith)
+label_short word k h = cond_both (nat_lt k 10) _ _ (λ (ds : List ℕ). length (word ++ ds) ≤ 255) (λ _. simp length-append (omega arith)) (λ _. simp length-append (omega arith))
 
 gauge-good : (e : ℕ) (m : Error) → e < 16 → gauge e ≡ Some m → Good e m
 gauge-good e m h = go (io_kind_at e)
   where
     go : (o : Option IoKind) → option_map (gauge_error e) o ≡ Some m → Good e m
-    go None q = absurd (let z : ◌≡◌ {A = ℕ} 0 1 = cc in omega arith)
+    go None q = absurd cc
     go (Some i) q =
         let n : gauge_error e i ≡ m = cc in
         subst (Good e) n (record { within = omega arith; short = label_short (ascii "gauge ") e (omega arith); open_kind = refl; below = tt })
@@ -43,32 +40,14 @@ plain-good e d word k m h f w q =
     let n : record { kind = Plain; text = word ++ decimal k; source = Some d } ≡ m = cc in
     subst (Good e) n (record { within = h; short = label_short word k w; open_kind = refl; below = (f, omega arith) })
 
-gate-good : (e : ℕ) (m : Error) → 32 ≤ e → gate e ≡ Some m → Good e m
-gate-good e m l = ⊎_elim gated past (cases_lt e 48)
-  where
-    gated : e < 48 → gate e ≡ Some m → Good e m
-    gated h q = plain-good e (e - 16) (ascii "gate ") (e - 32) m h (omega arith) (omega arith) (sym (cond-true (nat_lt e 48) _ _ (lt-ltb e 48 h)) ∙ q)
-
-    past : 48 ≤ e → gate e ≡ Some m → Good e m
-    past h q = let n : None ≡ Some m = sym (cond-false (nat_lt e 48) _ _ (le-ltb e 48 h)) ∙ q in absurd (let z : ◌≡◌ {A = ℕ} 0 1 = cc in omega arith)
-
-drive-good : (e : ℕ) (m : Error) → 16 ≤ e → drive e ≡ Some m → Good e m
-drive-good e m l = ⊎_elim driven past (cases_lt e 32)
-  where
-    driven : e < 32 → drive e ≡ Some m → Good e m
-    driven h q = plain-good e (e - 16) (ascii "drive ") (e - 16) m (omega arith) (omega arith) (omega arith) (sym (cond-true (nat_lt e 32) _ _ (lt-ltb e 32 h)) ∙ q)
-
-    past : 32 ≤ e → drive e ≡ Some m → Good e m
-    past h q = gate-good e m h (sym (cond-false (nat_lt e 32) _ _ (le-ltb e 32 h)) ∙ q)
-
 good : (e : ℕ) (m : Error) → drive_errors e ≡ Some m → Good e m
-good e m = ⊎_elim gauged past (cases_lt e 16)
+good e m =
+    cond_both (nat_lt e 16) (gauge e) (drive e) Then (λ t. gauge-good e m (ltb-true e 16 t)) (λ f. let below = ltb-false e 16 f in
+    cond_both (nat_lt e 32) _ (gate e) Then (λ t. let above = ltb-true e 32 t in plain-good e (e - 16) (ascii "drive ") (e - 16) m (omega arith) (omega arith) (omega arith)) (λ f. let below = ltb-false e 32 f in
+    cond_both (nat_lt e 48) _ None Then (λ t. plain-good e (e - 16) (ascii "gate ") (e - 32) m (ltb-true e 48 t) (omega arith) (omega arith)) (λ f q. absurd cc)))
   where
-    gauged : e < 16 → drive_errors e ≡ Some m → Good e m
-    gauged h q = gauge-good e m h (sym (cond-true (nat_lt e 16) _ _ (lt-ltb e 16 h)) ∙ q)
-
-    past : 16 ≤ e → drive_errors e ≡ Some m → Good e m
-    past h q = drive-good e m h (sym (cond-false (nat_lt e 16) _ _ (le-ltb e 16 h)) ∙ q)
+    Then : Option Error → Type 0
+    Then o = o ≡ Some m → Good e m
 
 drive-live : (e : ℕ) → e < 48 → Live drive_errors e
 drive-live e h = cond_both (nat_lt e 16) (gauge e) (drive e) Told gauged (λ _. cond_both (nat_lt e 32) _ (gate e) Told (λ _. refl) (λ _. ap is_some (cond-true (nat_lt e 48) _ _ (lt-ltb e 48 h))))
@@ -88,7 +67,7 @@ drive_lawful =
       small = omega arith;
       within = λ e m q. (good e m q).within;
       short = λ e m q. (good e m q).short;
-      bare = λ e m q b. let f = (good e m q).open_kind in absurd (let z : ◌≡◌ {A = ℕ} 0 1 = cc in omega arith);
+      bare = λ e m q b. let f = (good e m q).open_kind in absurd cc;
       falls = λ e d m q s. (source-good e d m q s).0;
       lives = λ e d m q s. drive-live d (source-good e d m q s).1;
     }

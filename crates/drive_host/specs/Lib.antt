@@ -1,3 +1,2 @@
 pub mod Drive
-pub mod Label
 pub mod DriveLaws

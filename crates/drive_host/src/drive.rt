@@ -1,9 +1,11 @@
-ghost use Rattle.std.specs.Prelude.{◌≡◌, ℕ, ◌+◌, ◌<◌, ◌≤◌, ◌++◌, length, take, Err};
-ghost use Rattle.drive_host.specs.Drive.{decimal, drive_errors};
-ghost use Rattle.drive_host.specs.Label.{Spelled, Labelled};
-ghost use Rattle.drive_host.specs.DriveLaws.{drive_lawful};
+ghost use Rattle.std.specs.Prelude.{◌≡◌, ℕ, ◌<◌, ◌≤◌, ◌++◌, length, Err};
+ghost use Rattle.std.specs.Result.{result_map_both};
 ghost use Rattle.vocabulary.specs.declared.fault.LayerFault.TheVariants.{Full};
+ghost use Rattle.model.specs.Host.{answer};
+ghost use Rattle.drive_host.specs.Drive.{decimal, drive_errors};
+ghost use Rattle.drive_host.specs.DriveLaws.{drive_lawful};
 
+use arrayvec::ArrayString;
 use host::host::{GrowingHost, Host};
 use host::text::fill_front;
 use vocabulary::fault::{HostFault, LayerFault};
@@ -15,45 +17,29 @@ use vocabulary::kind::Kind;
 #[derive(Clone, Copy)]
 pub struct DriveHost;
 
-// A text of at most eight bytes.
-#[derive(Clone, Copy)]
-pub(crate) struct Label {
-    bytes: [u8; 8],
-    len: usize,
+// A word, and behind it a number below 100 in decimal.
+fn spell(word: &str, reason: u8) -> ArrayString<8>
+    requires { (length word.now ≤ 6) × (reason < 100) }
+    ensures { result.bytes ≡ word.now ++ decimal reason }
+{
+    let mut label = ArrayString::new();
+    label.push_str(word);
+    if reason >= 10 {
+        label.push(char::from(b'0' + reason / 10));
+    }
+    label.push(char::from(b'0' + reason % 10));
+    label
 }
 
-// The first bytes of a word, and behind them a number in decimal.
-fn spell(word: &[u8; 8], end: usize, reason: u8) -> Label
-    requires { (end ≤ 6) × (reason < 100) }
-    ensures { Spelled (take end word.now ++ decimal reason) result }
+// The text of an error.
+fn label_of(error: u16) -> Result<ArrayString<8>, HostFault>
+    ensures { result_map_both (λ l. l.bytes) (λ f. f) result ≡ answer (drive_errors error) error (λ m. m.text) }
 {
-    let mut bytes = *word;
-    if reason < 10 {
-        bytes[end] = 48 + reason;
-        return Label {
-            bytes,
-            len: end + 1,
-        };
-    }
-    bytes[end] = 48 + reason / 10;
-    bytes[end + 1] = 48 + reason % 10;
-    Label {
-        bytes,
-        len: end + 2,
-    }
-}
-
-fn label_of(error: u16) -> Result<Label, HostFault>
-    ensures { Labelled (drive_errors error) error result }
-{
-    if error < 16 {
-        Ok(spell(b"gauge   ", 6, error as u8))
-    } else if error < 32 {
-        Ok(spell(b"drive   ", 6, (error - 16) as u8))
-    } else if error < 48 {
-        Ok(spell(b"gate    ", 5, (error - 32) as u8))
-    } else {
-        Err(HostFault::NotLive(error))
+    match error {
+        0..=15 => Ok(spell("gauge ", error as u8)),
+        16..=31 => Ok(spell("drive ", (error - 16) as u8)),
+        32..=47 => Ok(spell("gate ", (error - 32) as u8)),
+        _ => Err(HostFault::NotLive(error)),
     }
 }
 
@@ -65,35 +51,27 @@ impl Host for DriveHost {
     ghost lawful = { λ h. drive_lawful };
 
     fn kind(&self, error: u16) -> Result<Kind, HostFault> {
-        if error >= 48 {
-            return Err(HostFault::NotLive(error));
-        }
-        if error >= 16 {
-            return Ok(Kind::Plain);
-        }
-        match IoKind::from_number(error as u8) {
-            Some(kind) => Ok(Kind::Io(kind)),
-            None => Err(HostFault::NotLive(error)),
+        match error {
+            0..=15 => Ok(Kind::Io(IoKind::try_from(error as u8).unwrap())),
+            16..=47 => Ok(Kind::Plain),
+            _ => Err(HostFault::NotLive(error)),
         }
     }
 
     fn source(&self, error: u16) -> Result<Option<u16>, HostFault> {
-        if error >= 48 {
-            Err(HostFault::NotLive(error))
-        } else if error >= 16 {
-            Ok(Some(error - 16))
-        } else {
-            Ok(None)
+        match error {
+            0..=15 => Ok(None),
+            16..=47 => Ok(Some(error - 16)),
+            _ => Err(HostFault::NotLive(error)),
         }
     }
 
     fn text_len(&self, error: u16) -> Result<usize, HostFault> {
-        Ok(label_of(error)?.len)
+        Ok(label_of(error)?.len())
     }
 
     fn text(&self, error: u16, part: &mut [u8]) -> Result<usize, HostFault> {
-        let label = label_of(error)?;
-        fill_front(part, &label.bytes[0..label.len])
+        fill_front(part, label_of(error)?.as_str().as_bytes())
     }
 
     fn span(&self) -> u32 {
@@ -102,6 +80,7 @@ impl Host for DriveHost {
 }
 
 // The drive host gains no errors: it has no room for any, and an addition says nothing.
+// Such hosts each write this body of one line: a shared one would take a marker trait, an impl over it and an impl of it.
 impl GrowingHost for DriveHost {
     type Addition = ();
 

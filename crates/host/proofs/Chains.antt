@@ -1,103 +1,118 @@
--- The two loops down a source chain: what one turn keeps, and what the end gives.
-use Rattle.std.proofs.Common.{◌≡◌, ℕ, Bool, cond, not, ◌&&◌, ◌||◌, List, [], ◌∷◌, Some, None, Ok, Option, sym, refl, ap, ◌∙◌, subst}
+-- An error's chain: one step down it, its deepest challenge, its pairs, and what they come to.
+use Rattle.std.proofs.Common.{◌≡◌, ℕ, zero, suc, ◌≤◌, Bool, true, false, cond, not, ◌&&◌, ◌||◌, List, [], ◌∷◌, map, Some, None, Ok, Option, sym, refl, ap, ◌∙◌, subst, arith}
+use Rattle.std.proofs.lemmas.Iterator.{YieldsList, items_from_drains}
+use Rattle.std.proofs.lemmas.List.{map-id}
+use Rattle.std.specs.Iterator.{Drains}
+use Rattle.std.specs.List.{filter, fold, last_or}
 use mathlib.Core.Bool.{or_assoc, or-false}
 use Rattle.classes.specs.Class.{lesser}
 use Rattle.classes.specs.declared.class.Class.{Class}
-use Rattle.vocabulary.specs.declared.kind.Kind.{Kind}
 use Rattle.vocabulary.specs.declared.policy.Pair.{Pair}
-use Rattle.model.specs.Challenge.{or, itself, deepest, beneath}
+use Rattle.model.specs.Challenge.{or, deepest, beneath}
 use Rattle.model.specs.Host.{Error, Errors, Lawful, answer}
-use Rattle.model.specs.Judge.{any, any_pair, has_rank, is_challenge, kind_pair, least_class, may_retry, pair_of, pairs_of, stated_class, told, challenge_beneath}
-use Rattle.model.specs.Sources.{bound, chain, chain_up_to, chain_from, source_of, sources, LiveOrNone}
+use Rattle.model.specs.Judge.{any, any_pair, challenge_beneath, is_challenge, least_class, may_retry, pair_of, pairs_of, told}
+use Rattle.model.specs.Sources.{bound, chain, chain_up_to, chain_from, source_of, LiveOrNone}
 use Rattle.host.specs.Findings.{findings_of, retries}
+use Rattle.host.specs.declared.judge.Findings.{Findings}
 use Rattle.model.proofs.Judge.{Decided, decided, lesser_assoc, chain_falls, cancelled_least}
-use Rattle.model.proofs.Steps.{Step, step, answered, live_since}
+use Rattle.model.proofs.Sources.{enough, source-bound, source-live}
+use Rattle.model.proofs.Steps.{answered}
 
-or_joins : (a b c : Option ℕ) → or a (or b c) ≡ or (or a b) c
-or_joins None b c = refl
-or_joins (Some x) b c = refl
+-- an answer that does not look at what is told
+pub the_same : {A : Type 0} (o : Option Error) (e : ℕ) (a b : A) → Ok a ≡ answer o e (λ _. b) → a ≡ b
+the_same o e a b q = (answered o e _ a q).2
 
-or-none : (a : Option ℕ) → or a None ≡ a
-or-none None = refl
-or-none (Some x) = refl
-
-lesser-none : (a : Option Class) → lesser a None ≡ a
-lesser-none None = refl
-lesser-none (Some x) = refl
+pub constantly : {A B : Type 0} (o : Option Error) (e : ℕ) (f : Error → A) (a : A) (b : B) → Ok a ≡ answer o e f → Ok b ≡ answer o e (λ _. b)
+constantly o e f a b q = let m = answered o e f a q in sym (ap (λ (x : Option Error). answer x e (λ _. b)) m.1)
 
 -- no error, no chain
 pub no_chain : (h : Errors) (at : Option ℕ) → at ≡ None → chain_from h at ≡ []
 unfolding chain_up_to
 no_chain h at p = ap (chain_from h) p
 
-module _ (h : Errors) (at next : Option ℕ) (e : ℕ) (k : Kind) (s : Step h at next e k) where
-  itself_is : cond (has_rank 6 (stated_class k)) (Some e) None ≡ itself h e
-  itself_is =
-      ap (λ (x : Kind). cond (has_rank 6 (stated_class x)) (Some e) None) s.kind_is
-      ∙ sym (ap (λ (o : Option Error). cond (is_challenge o) (Some e) None) s.error)
+module _ (h : Errors) (span : ℕ) (l : Lawful h span) where
+  -- the source of an error, live or not
+  record Below (e : ℕ) (o : Option ℕ) : Type 0 where
+    live : LiveOrNone h o
+    small : bound o ≤ e
 
-  pub deepest_again : (above above' total : Option ℕ) → above' ≡ or (cond (has_rank 6 (stated_class k)) (Some e) None) above
-      → or (deepest h (chain_from h at)) above ≡ total → or (deepest h (chain_from h next)) above' ≡ total
-  deepest_again above above' total q v =
-      ap (or (deepest h (chain_from h next))) (q ∙ ap (λ (o : Option ℕ). or o above) itself_is)
-      ∙ or_joins (deepest h (chain_from h next)) (itself h e) above
-      ∙ sym (ap (λ (xs : List ℕ). or (deepest h xs) above) s.list) ∙ v
-
-  decided_here : (c : Option ℕ) → Decided h c (chain_from h at) → Decided h c (e ∷ chain_from h next)
-  decided_here c d = subst (Decided h c) s.list d
-
-  pub decided_next : (c : Option ℕ) → Decided h c (chain_from h at) → Decided h c (chain_from h next)
-  decided_next c d = (decided_here c d).1
-
-  beneath_is : (c : Option ℕ) → Decided h c (chain_from h at) → challenge_beneath h e ≡ beneath c e
-  beneath_is c d = ap (any (λ x. is_challenge (h x))) (sources_is) ∙ (decided_here c d).0
+  below : (e : ℕ) → Below e (source_of (h e))
+  below e = go (h e) refl
     where
-      sources_is : sources h e ≡ chain_from h next
-      sources_is = ap (λ (o : Option Error). chain_from h (source_of o)) s.error ∙ ap (chain_from h) s.source_is
+      go : (o : Option Error) → h e ≡ o → Below e (source_of o)
+      go None q = record { live = tt; small = omega arith }
+      go (Some m) q = record { live = source-live h span l e m q; small = source-bound h span l e m q }
 
-  pub pair_is : (c : Option ℕ) → Decided h c (chain_from h at) → kind_pair k (beneath c e) ≡ pair_of h e
-  pair_is c d =
-      ap (λ (x : Kind). kind_pair x (beneath c e)) s.kind_is ∙ ap (kind_pair s.told.kind) (sym (beneath_is c d))
-      ∙ sym (ap (λ (o : Option Error). told o (challenge_beneath h e)) s.error)
+  -- where a limit suffices, the rest of a chain is that of the source
+  rest : (n e : ℕ) → e ≤ n → chain_up_to h n (source_of (h e)) ≡ chain_from h (source_of (h e))
+  rest n e k = let b = below e in let s = b.small in enough h span l n (bound (source_of (h e))) (source_of (h e)) b.live (omega arith) (omega arith)
 
-  pub class_again : (c : Option ℕ) → Decided h c (chain_from h at) → (found found' total : Option Class) (p : Pair) → p ≡ kind_pair k (beneath c e) → found' ≡ lesser found p.class
-      → lesser found (least_class (pairs_of h (chain_from h at))) ≡ total → lesser found' (least_class (pairs_of h (chain_from h next))) ≡ total
-  class_again c d found found' total p q n v =
-      let same : p ≡ pair_of h e = q ∙ pair_is c d in
-      ap (λ (f : Option Class). lesser f (least_class (pairs_of h (chain_from h next)))) (n ∙ ap (λ (x : Pair). lesser found x.class) same)
-      ∙ lesser_assoc found (pair_of h e).class (least_class (pairs_of h (chain_from h next)))
-      ∙ sym (ap (λ (xs : List ℕ). lesser found (least_class (pairs_of h xs))) s.list) ∙ v
+  -- an error, and then the chain of its source
+  pub chain_next : (at : Option ℕ) (e : ℕ) → at ≡ Some e → chain_from h at ≡ e ∷ chain_from h (source_of (h e))
+  unfolding chain_up_to
+  chain_next at e p = ap (chain_from h) p ∙ ap (λ (xs : List ℕ). e ∷ xs) (rest e e (omega arith))
 
-  pub accepted_again : (accepts : Pair → Bool) (c : Option ℕ) → Decided h c (chain_from h at) → (found found' total b : Bool) (p : Pair) → p ≡ kind_pair k (beneath c e) → b ≡ accepts p → found' ≡ (found || b)
-      → (found || any_pair accepts (pairs_of h (chain_from h at))) ≡ total → (found' || any_pair accepts (pairs_of h (chain_from h next))) ≡ total
-  accepted_again accepts c d found found' total b p q a n v =
-      let same : p ≡ pair_of h e = q ∙ pair_is c d in
-      ap (λ (f : Bool). (f || any_pair accepts (pairs_of h (chain_from h next)))) (n ∙ ap (λ (x : Bool). (found || x)) (a ∙ ap accepts same))
-      ∙ or_assoc found (accepts (pair_of h e)) (any_pair accepts (pairs_of h (chain_from h next)))
-      ∙ sym (ap (λ (xs : List ℕ). (found || any_pair accepts (pairs_of h xs))) s.list) ∙ v
+  -- where one number decides for each error of a chain, it gives their pairs
+  decided_pairs : (c : Option ℕ) (n : ℕ) (o : Option ℕ) → bound o ≤ n → Decided h c (chain_up_to h n o) → map (λ e. told (h e) (beneath c e)) (chain_up_to h n o) ≡ pairs_of h (chain_up_to h n o)
+  unfolding chain_up_to
+  decided_pairs c zero o k d = refl
+  decided_pairs c (suc n) None k d = refl
+  decided_pairs c (suc n) (Some e) k d =
+      let more = below e in
+      let s = more.small in
+      let here : beneath c e ≡ challenge_beneath h e = sym d.0 ∙ ap (any (λ x. is_challenge (h x))) (rest n e (omega arith)) in
+      let tail = decided_pairs c n (source_of (h e)) (omega arith) d.1 in
+      ap (λ (b : Bool). told (h e) b ∷ map (λ e. told (h e) (beneath c e)) (chain_up_to h n (source_of (h e)))) here ∙ ap (λ (ps : List Pair). pair_of h e ∷ ps) tail
 
--- the whole chain, by its first error
-pub begins_decided : (h : Errors) (span : ℕ) → Lawful h span → (e : ℕ) (c : Option ℕ) → LiveOrNone h (Some e) → c ≡ deepest h (chain h e) → Decided h c (chain h e)
-begins_decided h span l e c v q = subst (λ (x : Option ℕ). Decided h x (chain h e)) (sym q) (decided h (chain h e) (chain_falls h span l (bound (Some e)) (Some e) v))
+  module _ (e : ℕ) (c : Option ℕ) (v : LiveOrNone h (Some e)) (q : c ≡ deepest h (chain h e)) where
+    decides : Decided h c (chain h e)
+    decides = subst (λ (x : Option ℕ). Decided h x (chain h e)) (sym q) (decided h (chain h e) (chain_falls h span l (bound (Some e)) (Some e) v))
 
--- an answer that does not look at what is told
-pub constantly : {A B : Type 0} (o : Option Error) (e : ℕ) (f : Error → A) (a : A) (b : B) → Ok a ≡ answer o e f → Ok b ≡ answer o e (λ _. b)
-constantly o e f a b q = let m = answered o e f a q in sym (ap (λ (x : Option Error). answer x e (λ _. b)) m.1)
+    pub pairs_are : map (λ e. told (h e) (beneath c e)) (chain h e) ≡ pairs_of h (chain h e)
+    pairs_are = decided_pairs c (bound (Some e)) (Some e) (omega arith) decides
 
--- at the end of the chain what was found is what the whole comes to
-module _ (h : Errors) (at : Option ℕ) (ends : at ≡ None) where
-  pub class_all : (found total : Option Class) → lesser found (least_class (pairs_of h (chain_from h at))) ≡ total → found ≡ total
-  class_all found total v = sym (ap (λ (xs : List ℕ). lesser found (least_class (pairs_of h xs))) (no_chain h at ends) ∙ lesser-none found) ∙ v
+    pub pair_is : told (h e) (beneath c e) ≡ pair_of h e
+    unfolding chain_up_to
+    pair_is = ap (told (h e)) (sym decides.0 ∙ ap (any (λ x. is_challenge (h x))) (rest e e (omega arith)))
 
-  pub accepted_all : (accepts : Pair → Bool) (found total : Bool) → (found || any_pair accepts (pairs_of h (chain_from h at))) ≡ total → found ≡ total
-  accepted_all accepts found total v = sym (ap (λ (xs : List ℕ). (found || any_pair accepts (pairs_of h xs))) (no_chain h at ends) ∙ or-false found) ∙ v
+-- the answer of `last`, from its clause `ran`
+pub last_from_yields : {S A : Type 0} {steps : S → Option A → S → Type 0} {s : S} {all : List A} (r : Option A) → ((xs : List A) × Drains steps s xs × (r ≡ last_or None xs)) → YieldsList steps (λ x. x) s all → r ≡ last_or None all
+last_from_yields r ran y = let d = ran.1 in ran.2 ∙ ap (last_or None) (sym (map-id ran.0) ∙ items_from_drains ran.0 (d.1.0, d.1.1, λ _. (d.0, d.1.2)) y)
 
--- the pair of an error, by its kind and the deepest challenge of its chain
-pub pair_alone : (h : Errors) (span : ℕ) → Lawful h span → (e : ℕ) (k : Kind) (c : Option ℕ) → Ok k ≡ answer (h e) e (λ m. m.kind) → c ≡ deepest h (chain h e) → kind_pair k (beneath c e) ≡ pair_of h e
-pair_alone h span l e k c q d =
-    let m = answered (h e) e (λ m. m.kind) k q in
-    let s = step h span l (Some e) m.0.source e k refl q (sym (ap (λ (o : Option Error). answer o e (λ x. x.source)) m.1)) in
-    pair_is h (Some e) m.0.source e k s c (begins_decided h span l e c (live_since h e (λ m. m.kind) k q) d)
+-- the last challenge of a list is the deepest
+last_challenge : (h : Errors) (o : Option ℕ) (xs : List ℕ) → last_or o (filter (λ e. is_challenge (h e)) xs) ≡ or (deepest h xs) o
+last_challenge h o [] = refl
+last_challenge h o (x ∷ xs) = go (last_challenge h (Some x) xs) (last_challenge h o xs) (is_challenge (h x))
+  where
+    joined : (d : Option ℕ) (c : Option ℕ) → or d (or c o) ≡ or (or d c) o
+    joined None c = refl
+    joined (Some y) c = refl
+
+    go : last_or (Some x) (filter (λ e. is_challenge (h e)) xs) ≡ or (deepest h xs) (Some x) → last_or o (filter (λ e. is_challenge (h e)) xs) ≡ or (deepest h xs) o
+        → (b : Bool) → last_or o (cond b (x ∷ filter (λ e. is_challenge (h e)) xs) (filter (λ e. is_challenge (h e)) xs)) ≡ or (or (deepest h xs) (cond b (Some x) None)) o
+    go here later true = here ∙ joined (deepest h xs) (Some x)
+    go here later false = later ∙ joined (deepest h xs) None
+
+pub deepest_is : (h : Errors) (xs : List ℕ) → last_or None (filter (λ e. is_challenge (h e)) xs) ≡ deepest h xs
+deepest_is h xs = last_challenge h None xs ∙ or-none (deepest h xs)
+  where
+    or-none : (a : Option ℕ) → or a None ≡ a
+    or-none None = refl
+    or-none (Some x) = refl
+
+-- findings taken pair by pair
+abbrev pub with_pair : (Pair → Bool) → Findings → Pair → Findings
+with_pair accepts f p = record { class = lesser f.class p.class; accepted = f.accepted || accepts p }
+
+pub folded : (accepts : Pair → Bool) (f : Findings) (ps : List Pair) → fold (with_pair accepts) f ps ≡ record { class = lesser f.class (least_class ps); accepted = f.accepted || any_pair accepts ps }
+folded accepts f [] = λ i. record { class = sym (lesser-none f.class) i; accepted = sym (or-false f.accepted) i }
+  where
+    lesser-none : (a : Option Class) → lesser a None ≡ a
+    lesser-none None = refl
+    lesser-none (Some x) = refl
+folded accepts f (p ∷ ps) =
+    folded accepts (with_pair accepts f p) ps
+    ∙ (λ i. record { class = lesser_assoc f.class p.class (least_class ps) i; accepted = or_assoc f.accepted (accepts p) (any_pair accepts ps) i })
 
 -- the verdict by the least class is that of the definition
 pub verdict : (accepts : Pair → Bool) (ps : List Pair) → retries (findings_of accepts ps) ≡ may_retry accepts ps

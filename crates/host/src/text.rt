@@ -12,6 +12,6 @@ pub fn fill_front(part: &mut [u8], text: &[u8]) -> Result<usize, HostFault>
     if part.len() < len {
         return Err(HostFault::TextTooLong(len));
     }
-    part[0..len].copy_from_slice(text);
+    part[..len].copy_from_slice(text);
     Ok(len)
 }

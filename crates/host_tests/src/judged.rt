@@ -25,10 +25,7 @@ const DRIVE: [(u16, Option<u8>, bool, bool); 12] = [
 #[test]
 fn drive_errors(rt: HostRuntime) -> Result<(), Fail> {
     for (error, rank, strict, lenient) in DRIVE {
-        let (found_rank, found_strict, found_lenient) = reading(&DriveHost, error)?;
-        assert_eq!(rt; found_rank, rank);
-        assert_eq!(rt; found_strict, strict);
-        assert_eq!(rt; found_lenient, lenient);
+        assert_eq!(rt; reading(&DriveHost, error)?, (rank, strict, lenient));
     }
     Ok(())
 }
@@ -37,9 +34,7 @@ fn drive_errors(rt: HostRuntime) -> Result<(), Fail> {
 fn cancelled_stops_retry(rt: HostRuntime) -> Result<(), Fail> {
     let mut host = Marked::new(DriveHost);
     let marker = host.mark(6, 0)?;
-    let (rank, strict, lenient) = reading(&host, marker)?;
-    assert_eq!(rt; rank, Some(0));
-    assert!(rt; !strict && !lenient);
+    assert_eq!(rt; reading(&host, marker)?, (Some(0), false, false));
     Ok(())
 }
 
@@ -61,8 +56,6 @@ fn challenge_takes_the_place_of_a_denied_permission(rt: HostRuntime) -> Result<(
 fn denied_permission_alone(rt: HostRuntime) -> Result<(), Fail> {
     let mut host = Wrapped::new(DriveHost);
     let denied = host.wrap(0, 2)?;
-    let (rank, strict, lenient) = reading(&host, denied)?;
-    assert_eq!(rt; rank, Some(7));
-    assert!(rt; !strict && !lenient);
+    assert_eq!(rt; reading(&host, denied)?, (Some(7), false, false));
     Ok(())
 }

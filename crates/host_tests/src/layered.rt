@@ -7,7 +7,7 @@ use layers::wrapped::Wrapped;
 use std::test::Fail;
 use vocabulary::fault::{HostFault, LayerFault};
 
-// The text of an error, in a part of twelve bytes that were filled with dots.
+// A part of twelve dots once it was filled with an error's text, and the answer; the dots behind the text are compared too.
 fn text_of<H: Host>(host: &H, error: u16) -> Result<([u8; 12], usize), HostFault> {
     let mut part = *b"............";
     let len = host.text(error, &mut part)?;

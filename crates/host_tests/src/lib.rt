@@ -1,6 +1,7 @@
 // Tests of the hosts and of what is asked of one error.
 #![tactic(auto)]
 
+use classes::class::Class;
 use host::host::Host;
 use host::judge::{dominant_class, retry};
 use vocabulary::fault::HostFault;
@@ -8,12 +9,8 @@ use vocabulary::policy::StandardPolicy;
 
 // The rank of the class, and both verdicts, of an error and its sources.
 pub fn reading<H: Host>(host: &H, error: u16) -> Result<(Option<u8>, bool, bool), HostFault> {
-    let rank = match dominant_class(host, error)? {
-        Some(class) => Some(class.rank()),
-        None => None,
-    };
     Ok((
-        rank,
+        dominant_class(host, error)?.map(Class::rank),
         retry(host, &StandardPolicy::CanRetry, error)?,
         retry(host, &StandardPolicy::CanRetryLenient, error)?,
     ))

@@ -1,72 +1,78 @@
 -- The entries of a layer, and the host that they make of the host below.
-use Rattle.std.specs.Prelude.{◌≡◌, ℕ, ◌+◌, ◌-◌, ◌<◌, min, Bool, false, cond, ◌&&◌, List, [], Some, None, Ok, Err, Option, Result, nat_lt, slice_set}
+use Rattle.std.specs.Prelude.{◌≡◌, ℕ, ◌+◌, ◌-◌, ◌<◌, ◌≤◌, min, Bool, true, false, cond, ◌&&◌, [], ◌∷◌, ◌++◌, Some, None, Ok, Err, Option, Result, nat_lt}
 use Rattle.std.specs.List.{slice_get}
+use Rattle.std.specs.Option.{option_map, option_map_or}
+use Rattle.arrayvec.specs.ArrayVec.{array_vec_len}
 use Rattle.vocabulary.specs.Kind.{sourceless}
 use Rattle.vocabulary.specs.declared.fault.HostFault.{HostFault}
 use Rattle.vocabulary.specs.declared.fault.HostFault.TheVariants.{NotLive}
 use Rattle.vocabulary.specs.declared.fault.LayerFault.{LayerFault}
 use Rattle.vocabulary.specs.declared.fault.LayerFault.TheVariants.{Full}
+use Rattle.vocabulary.specs.declared.kind.Kind.TheVariants.{Plain}
 use Rattle.model.specs.Host.{Error, Errors}
+use Rattle.layers.specs.declared.entries.Entries.{Entries}
 use Rattle.layers.specs.declared.entry.Entry.{Entry}
 use Rattle.layers.specs.declared.entry.Foot.{Foot}
 
--- a layer's span is that below plus 64, at most 65,536, whatever entries there are
-abbrev pub layer_span : ℕ → ℕ
-layer_span below = min (below + 64) 65536
+-- the entry that a layer has in a place where none was made yet
+abbrev pub unmade : Entry
+unmade = record { error = 0; kind = Plain; foot = record { base = 0; silent = true } }
 
-abbrev pub entry_at : List Entry → ℕ → ℕ → Option Entry
-entry_at items count i = cond (nat_lt i count) (slice_get items i) None
+-- a layer's span is that below plus 64, at most 65,536, whatever entries there are
+abbrev pub layered_span : Entries → ℕ
+layered_span t = min (t.below + 64) 65536
+
+-- the entry of a number: entry i is the span below plus i
+abbrev pub entry_of : Entries → ℕ → Option Entry
+entry_of t e = cond (nat_lt e t.below) None (slice_get t.items.items (e - t.below))
 
 -- what an entry is, where the error below in which its sources end is `base`: it is live while that one is
 abbrev pub entry_error : Entry → Option Error → Option Error
-entry_error x None = None
-entry_error x (Some base) = Some (record { kind = x.kind; text = cond x.foot.silent [] base.text; source = Some x.error })
+entry_error x base = option_map (λ b. record { kind = x.kind; text = cond x.foot.silent [] b.text; source = Some x.error }) base
 
 abbrev pub entry_told : Errors → Option Entry → Option Error
-entry_told lower None = None
-entry_told lower (Some x) = entry_error x (lower x.foot.base)
+entry_told lower x = option_map_or (λ y. entry_error y (lower y.foot.base)) x None
 
--- the host of a layer: numbers within the span below are passed down, and entry i is the span below plus i
-abbrev pub layer_errors : Errors → ℕ → List Entry → ℕ → Errors
-layer_errors lower below items count e = cond (nat_lt e below) (lower e) (entry_told lower (entry_at items count (e - below)))
+-- the host of a layer: numbers within the span below are passed down, and the others are the entries'
+abbrev pub layered : Errors → Entries → Errors
+layered lower t e = cond (nat_lt e t.below) (lower e) (entry_told lower (slice_get t.items.items (e - t.below)))
 
 -- what a number rests on: the error below in which its sources end, and whether its text is empty
-abbrev pub foot_in : Option Entry → Foot
-foot_in None = record { base = 0; silent = false }
-foot_in (Some x) = x.foot
+abbrev pub foot_of : Entries → ℕ → Foot
+foot_of t e = option_map_or (λ x. x.foot) (entry_of t e) (record { base = e; silent = false })
 
-abbrev pub foot_from : ℕ → ℕ → Option Entry → Foot
-foot_from below e o = cond (nat_lt e below) (record { base = e; silent = false }) (foot_in o)
-
-abbrev pub foot_of : ℕ → List Entry → ℕ → Foot
-foot_of below items e = foot_from below e (slice_get items (e - below))
-
--- an entry stands around an error with a lower number, below or in the same layer
-abbrev pub Falling : ℕ → List Entry → ℕ → Type 0
-Falling below items count = (i : ℕ) (x : Entry) → entry_at items count i ≡ Some x → x.error < below + i
-
--- its sources end where those of that error end
-abbrev pub Ending : ℕ → List Entry → ℕ → Type 0
-Ending below items count = (i : ℕ) (x : Entry) → entry_at items count i ≡ Some x → x.foot.base ≡ (foot_of below items x.error).base
-
--- and it is of a kind that may have a source
-abbrev pub Sourced : List Entry → ℕ → Type 0
-Sourced items count = (i : ℕ) (x : Entry) → entry_at items count i ≡ Some x → sourceless x.kind ≡ false
+-- what holds of the entries of every layer
+pub record IsTable (t : Entries) : Type 0 where
+  pub room : array_vec_len t.items ≤ 64
+  pub numbered : t.below + array_vec_len t.items ≤ 65536
+  -- an entry stands around an error with a lower number, below or in the same layer
+  pub falling : (i : ℕ) (x : Entry) → slice_get t.items.items i ≡ Some x → x.error < t.below + i
+  -- its sources end where those of that error end
+  pub ending : (i : ℕ) (x : Entry) → slice_get t.items.items i ≡ Some x → x.foot.base ≡ (foot_of t x.error).base
+  -- and it is of a kind that may have a source
+  pub sourced : (i : ℕ) (x : Entry) → slice_get t.items.items i ≡ Some x → sourceless x.kind ≡ false
 
 -- which entry or lower error a number is: `Ok None` for one that is passed down
-abbrev pub Resolved : Errors → ℕ → List Entry → ℕ → ℕ → Result (Option Entry) HostFault → Type 0
-Resolved lower below items count e (Ok None) = layer_errors lower below items count e ≡ lower e
-Resolved lower below items count e (Ok (Some x)) = (m : Error) × (lower x.foot.base ≡ Some m) × (layer_errors lower below items count e ≡ entry_error x (Some m))
-Resolved lower below items count e (Err f) = (f ≡ NotLive e) × (layer_errors lower below items count e ≡ None)
+abbrev pub Resolved : Errors → Entries → ℕ → Result (Option Entry) HostFault → Type 0
+Resolved lower t e (Ok None) = layered lower t e ≡ lower e
+Resolved lower t e (Ok (Some x)) = (m : Error) × (lower x.foot.base ≡ Some m) × (layered lower t e ≡ entry_error x (Some m))
+Resolved lower t e (Err f) = (f ≡ NotLive e) × (layered lower t e ≡ None)
+
+-- the number of the next entry
+abbrev pub next_number : Entries → ℕ
+next_number t = t.below + array_vec_len t.items
 
 -- whether a layer takes one entry more: it has fewer than 64, and the new number is at most 65,535
-abbrev pub has_room : ℕ → ℕ → Bool
-has_room below count = nat_lt count 64 && nat_lt (below + count) 65536
+abbrev pub has_room : Entries → Bool
+has_room t = nat_lt (array_vec_len t.items) 64 && nat_lt (next_number t) 65536
+
+-- the answer to one more entry: its number, where there is room
+abbrev pub room_for : Entries → Result ℕ LayerFault
+room_for t = cond (has_room t) (Ok (next_number t)) (Err (Full (array_vec_len t.items)))
+
+abbrev pub with_entry : Entries → Entry → Entries
+with_entry t x = record { below = t.below; items = record { items = t.items.items ++ x ∷ [] } }
 
 -- what adding an entry does: it stands at the end, or nothing changes
-abbrev pub Pushed : ℕ → List Entry → ℕ → ℕ → List Entry → ℕ → Entry → Result ℕ LayerFault → Type 0
-Pushed below items count below' items' count' x r =
-    (below' ≡ below)
-    × (r ≡ cond (has_room below count) (Ok (below + count)) (Err (Full count)))
-    × (count' ≡ cond (has_room below count) (count + 1) count)
-    × (items' ≡ cond (has_room below count) (slice_set items count x) items)
+abbrev pub pushed : Entries → Entry → Entries
+pushed t x = cond (has_room t) (with_entry t x) t

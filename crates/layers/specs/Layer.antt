@@ -1,25 +1,17 @@
 -- A layer: a host made of the host below and of entries.
-use Rattle.std.specs.Prelude.{◌≡◌, ℕ, ◌+◌, false, cond, List, [], Some, None, Ok, Err, Option, Result, nat_eq}
-use Rattle.std.specs.Option.{option_map}
+use Rattle.std.specs.Prelude.{ℕ, ◌+◌, List, [], Some, None, Ok, Err, Option, Result, nat_eq}
+use Rattle.std.specs.Option.{option_map, option_map_or}
 use Rattle.std.specs.Map.{update}
 use Rattle.classes.specs.Class.{class_at}
 use Rattle.vocabulary.specs.IoKind.{io_kind_at}
-use Rattle.vocabulary.specs.Kind.{sourceless}
 use Rattle.vocabulary.specs.declared.fault.HostFault.TheVariants.{NotLive}
 use Rattle.vocabulary.specs.declared.fault.LayerFault.{LayerFault}
-use Rattle.vocabulary.specs.declared.fault.LayerFault.TheVariants.{Host, NotNamed, Full}
+use Rattle.vocabulary.specs.declared.fault.LayerFault.TheVariants.{Host, NotNamed}
 use Rattle.vocabulary.specs.declared.kind.Kind.{Kind}
 use Rattle.vocabulary.specs.declared.kind.Kind.TheVariants.{ClassificationMarker, Io}
 use Rattle.model.specs.Host.{Error, Errors}
-use Rattle.layers.specs.Entries.{layer_errors, layer_span, has_room}
-use Rattle.layers.specs.EntryText.{text_of}
+use Rattle.layers.specs.Entries.{room_for}
 use Rattle.layers.specs.declared.entries.Entries.{Entries}
-
-abbrev pub layered : Errors → Entries → Errors
-layered lower t = layer_errors lower t.below t.items t.count
-
-abbrev pub layered_span : Entries → ℕ
-layered_span t = layer_span t.below
 
 -- the kind of a marker entry, by the rank; of an io entry, by the io kind's number
 abbrev pub marker_kind : ℕ → Option Kind
@@ -28,35 +20,20 @@ marker_kind rank = option_map ClassificationMarker (class_at rank)
 abbrev pub io_error_kind : ℕ → Option Kind
 io_error_kind number = option_map Io (io_kind_at number)
 
--- a marker's text is empty, an io entry's is that of its payload
-abbrev pub marker_text : Errors → ℕ → List ℕ
-marker_text h e = []
-
-abbrev pub payload_text : Errors → ℕ → List ℕ
-payload_text h e = text_of (h e)
-
--- the number of the next entry
-abbrev pub next_number : Entries → ℕ
-next_number t = t.below + t.count
-
-abbrev pub room_for : Entries → ℕ → Result ℕ LayerFault
-room_for t n = cond (has_room t.below t.count) (Ok n) (Err (Full t.count))
+-- the text of an error
+abbrev pub told_text : Errors → ℕ → List ℕ
+told_text h e = option_map_or (λ m. m.text) (h e) []
 
 -- The answer to a wrap of an error, which is told as `o`, in a kind that `value` names: refused where the error is not
 -- live, then where the value names no kind, then where there is no room; else the number of the new error.
 abbrev pub wrap_answer : Option Error → ℕ → Option Kind → ℕ → Entries → Result ℕ LayerFault
 wrap_answer None e k value t = Err (Host (NotLive e))
 wrap_answer (Some m) e None value t = Err (NotNamed value)
-wrap_answer (Some m) e (Some k) value t = room_for t (next_number t)
+wrap_answer (Some m) e (Some k) value t = room_for t
 
 -- the new error: around `e`, with a text of its own
 abbrev pub around : Kind → List ℕ → ℕ → Error
 around k text e = record { kind = k; text = text; source = Some e }
-
--- a kind to wrap in has a source
-abbrev pub Wraps : Option Kind → Type 0
-Wraps None = Unit {0}
-Wraps (Some k) = sourceless k ≡ false
 
 -- the host after a wrap: one error more where it was granted, and else as it was
 abbrev pub gained : Errors → Option Kind → List ℕ → ℕ → Result ℕ LayerFault → Errors

@@ -1,7 +1,7 @@
 pub mod Addition
 pub mod Entries
-pub mod EntryText
-pub mod Layer
-pub mod LayerHost
+pub mod EntryKinds
 pub mod EntryLaws
+pub mod Layer
 pub mod LayerLaws
+pub mod LayerHost

@@ -1,43 +1,26 @@
-ghost use Rattle.std.specs.Prelude.{◌≡◌, ◌+◌, ◌-◌, ◌<◌, ◌≤◌, min, false, length, if◌then◌else◌, Some, None, nat_lt};
-ghost use Rattle.vocabulary.specs.Kind.{sourceless};
-ghost use Rattle.layers.specs.Entries.{Falling, Ending, Sourced, Pushed, entry_at, foot_of};
+ghost use Rattle.std.specs.Prelude.{◌≡◌, []};
+ghost use Rattle.layers.specs.Entries.{entry_of, foot_of, pushed, room_for};
 
 use crate::entry::{Entry, Foot};
+use arrayvec::ArrayVec;
 use vocabulary::fault::LayerFault;
-use vocabulary::kind::Kind;
 
-// The entries of a layer over a host whose span is `below`.
+// The entries of a layer over a host whose span is `below`, in fixed memory: nothing allocates while a failure is
+// reported.
 #[derive(Drop)]
 pub struct Entries {
     below: u32,
-    items: [Entry; 64],
-    count: usize,
-    ghost sized: { length items ≡ 64 },
-    ghost room: { count ≤ 64 },
-    ghost numbered: { below + count ≤ 65536 },
-    ghost falling: { Falling below items count },
-    ghost ending: { Ending below items count },
-    ghost sourced: { Sourced items count },
+    items: ArrayVec<Entry, 64>,
 }
 
 impl Entries {
     // No entries yet.
     pub(crate) fn new(below: u32) -> Entries
-        ensures below { result.below ≡ min below 65536 }
-        ensures empty { result.count ≡ 0 }
+        ensures { result ≡ record { below = below; items = record { items = [] } } }
     {
-        let none = Entry {
-            error: 0,
-            kind: Kind::Plain,
-            foot: Foot {
-                base: 0,
-                silent: true,
-            },
-        };
         Entries {
-            below: below.min(65536),
-            items: [none; 64],
-            count: 0,
+            below,
+            items: ArrayVec::new(),
         }
     }
 
@@ -47,52 +30,34 @@ impl Entries {
         self.below
     }
 
-    pub(crate) fn count(&self) -> usize
-        ensures { result ≡ self.now.count }
-    {
-        self.count
-    }
-
     // The entry of a number, none where the number is the host's below or no entry's.
     pub(crate) fn get(&self, error: u16) -> Option<Entry>
-        ensures { result ≡ (if nat_lt error self.now.below then None else entry_at self.now.items self.now.count (error - self.now.below)) }
+        ensures { result ≡ entry_of self.now error }
     {
-        let below = self.below as usize;
-        let error = error as usize;
-        if error < below || error - below >= self.count {
-            return None;
-        }
-        Some(self.items[error - below])
+        let index = usize::from(error).checked_sub(self.below as usize)?;
+        self.items.get(index).copied()
     }
-}
 
-impl Entries {
     // What an error of the layer rests on.
     pub(crate) fn foot(&self, error: u16) -> Foot
-        requires { error < self.now.below + self.now.count }
-        ensures { result ≡ foot_of self.now.below self.now.items error }
+        ensures { result ≡ foot_of self.now error }
     {
-        match self.get(error) {
-            Some(entry) => entry.foot,
-            None => Foot {
-                base: error,
-                silent: false,
-            },
-        }
+        let passed = Foot {
+            base: error,
+            silent: false,
+        };
+        self.get(error).map_or(passed, |entry| entry.foot)
     }
 
-    // One entry more, around an error that the layer has.
+    // One entry more, where there is room.
     pub(crate) fn push(&mut self, entry: Entry) -> Result<u16, LayerFault>
-        requires { (entry.error < self.old.below + self.old.count) × ((sourceless entry.kind ≡ false) × (entry.foot.base ≡ (foot_of self.old.below self.old.items entry.error).base)) }
-        ensures { Pushed self.old.below self.old.items self.old.count self.new.below self.new.items self.new.count entry result }
+        ensures answered { result ≡ room_for self.old }
+        ensures pushed { self.new ≡ pushed self.old entry }
     {
-        let count = self.count;
-        let number = self.below as usize + count;
-        if count >= 64 || number >= 65536 {
-            return Err(LayerFault::Full(count as u8));
-        }
-        self.items[count] = entry;
-        self.count = count + 1;
-        Ok(number as u16)
+        let full = LayerFault::Full(self.items.len() as u8);
+        let number = self.below as usize + self.items.len();
+        let number = u16::try_from(number).map_err(|_| full)?;
+        self.items.try_push(entry).map_err(|_| full)?;
+        Ok(number)
     }
 }

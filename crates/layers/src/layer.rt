@@ -1,139 +1,131 @@
-// The questions to a layer, over the host below and the layer's entries.
-ghost use Rattle.std.specs.Prelude.{◌≡◌, ℕ, length};
-ghost use Rattle.model.specs.Host.{answer, text_answer, text_filled};
-ghost use Rattle.layers.specs.Entries.{Resolved};
-ghost use Rattle.layers.specs.EntryText.{entry_text, silences};
-ghost use Rattle.layers.specs.Layer.{layered, count_after, gained, wrap_answer, Wraps};
+ghost use Rattle.std.specs.Prelude.{◌≡◌, ℕ, ◌+◌, [], length, min, if◌then◌else◌};
+ghost use Rattle.arrayvec.specs.ArrayVec.{array_vec_len};
+ghost use Rattle.model.specs.Host.{Extends};
+ghost use Rattle.layers.specs.Addition.{Added};
+ghost use Rattle.layers.specs.Entries.{IsTable, Resolved, layered, layered_span};
+ghost use Rattle.layers.specs.Layer.{count_after, gained, told_text, wrap_answer};
+ghost use Rattle.layers.specs.LayerHost.{layer_lawful};
 
+use crate::addition::LayerAddition;
 use crate::entries::Entries;
-use crate::entry::{Entry, Foot};
-use host::host::Host;
+use crate::entry::Entry;
+use crate::entry_kind::EntryKind;
+use host::host::{GrowingHost, Host};
+use std::marker::PhantomData;
 use vocabulary::fault::{HostFault, LayerFault};
 use vocabulary::kind::Kind;
 
-// No entries yet over a host.
-pub(crate) fn begin<H: Host>(lower: &H) -> Entries
-    ensures errors { (e : ℕ) → layered (H.Host.errors lower.now) result e ≡ H.Host.errors lower.now e }
-    ensures below { result.below ≡ H.Host.extent lower.now }
-    ensures empty { result.count ≡ 0 }
-{
-    Entries::new(lower.span())
+// A layer over any host: up to 64 entries, each around an error of the host below or of the layer itself. `K` says what
+// the entries are.
+#[derive(Drop)]
+pub struct Layer<H, K> {
+    lower: H,
+    entries: Entries,
+    kinds: PhantomData<K>,
+    ghost table: { IsTable entries },
 }
 
-// The live entry of a number, or none for a number that is passed down.
-fn resolve<H: Host>(lower: &H, entries: &Entries, error: u16) -> Result<Option<Entry>, HostFault>
-    ensures { Resolved (H.Host.errors lower.now) entries.now.below entries.now.items entries.now.count error result }
-{
-    if u32::from(error) < entries.below() {
-        return Ok(None);
-    }
-    let Some(entry) = entries.get(error) else {
-        return Err(HostFault::NotLive(error));
-    };
-    match lower.kind(entry.foot.base) {
-        Ok(_) => Ok(Some(entry)),
-        Err(_) => Err(HostFault::NotLive(error)),
-    }
-}
-
-pub(crate) fn kind<H: Host>(lower: &H, entries: &Entries, error: u16) -> Result<Kind, HostFault>
-    ensures { result ≡ answer (layered (H.Host.errors lower.now) entries.now error) error (λ m. m.kind) }
-{
-    match resolve(lower, entries, error)? {
-        Some(entry) => Ok(entry.kind),
-        None => lower.kind(error),
-    }
-}
-
-pub(crate) fn source<H: Host>(
-    lower: &H,
-    entries: &Entries,
-    error: u16,
-) -> Result<Option<u16>, HostFault>
-    ensures { result ≡ answer (layered (H.Host.errors lower.now) entries.now error) error (λ m. m.source) }
-{
-    match resolve(lower, entries, error)? {
-        Some(entry) => Ok(Some(entry.error)),
-        None => lower.source(error),
-    }
-}
-
-pub(crate) fn text_len<H: Host>(
-    lower: &H,
-    entries: &Entries,
-    error: u16,
-) -> Result<usize, HostFault>
-    ensures { result ≡ answer (layered (H.Host.errors lower.now) entries.now error) error (λ m. length m.text) }
-{
-    match resolve(lower, entries, error)? {
-        Some(entry) if entry.foot.silent => Ok(0),
-        Some(entry) => lower.text_len(entry.foot.base),
-        None => lower.text_len(error),
-    }
-}
-
-pub(crate) fn text<H: Host>(
-    lower: &H,
-    entries: &Entries,
-    error: u16,
-    part: &mut [u8],
-) -> Result<usize, HostFault>
-    ensures answered { result ≡ text_answer (layered (H.Host.errors lower.now) entries.now error) error (length part.old) }
-    ensures filled { part.new ≡ text_filled (layered (H.Host.errors lower.now) entries.now error) part.old }
-{
-    match resolve(lower, entries, error)? {
-        Some(entry) if entry.foot.silent => Ok(0),
-        Some(entry) => lower.text(entry.foot.base, part),
-        None => lower.text(error, part),
-    }
-}
-
-// The text of a new entry: none, or that of the error that it is around.
-#[derive(Clone, Copy)]
-pub(crate) enum EntryText {
-    Empty,
-    Payload,
-}
-
-impl EntryText {
-    // Whether the entry's text is empty, where the error that it is around rests on `foot`.
-    fn is_empty(self, foot: Foot) -> bool
-        ensures { result ≡ silences self foot }
+impl<H: Host, K> Layer<H, K> {
+    // The layer without entries: the host below, with a span that is 64 more.
+    pub fn new(lower: H) -> Layer<H, K>
+        ensures errors { (e : ℕ) → layered (H.Host.errors result.lower) result.entries e ≡ H.Host.errors lower e }
+        ensures spans { layered_span result.entries ≡ min (H.Host.extent lower + 64) 65536 }
+        ensures empty { result.entries.items.items ≡ [] }
+        ensures below { result.entries.below ≡ H.Host.extent lower }
     {
-        match self {
-            EntryText::Empty => true,
-            EntryText::Payload => foot.silent,
+        let entries = Entries::new(lower.span());
+        Layer {
+            lower,
+            entries,
+            kinds: PhantomData,
         }
     }
+
+    // The live entry of a number, or none for a number that is passed down.
+    fn resolve(&self, error: u16) -> Result<Option<Entry>, HostFault>
+        ensures { Resolved (H.Host.errors self.now.lower) self.now.entries error result }
+    {
+        if u32::from(error) < self.entries.below() {
+            return Ok(None);
+        }
+        let entry = self.entries.get(error).ok_or(HostFault::NotLive(error))?;
+        self.lower
+            .kind(entry.foot.base)
+            .map_err(|_| HostFault::NotLive(error))?;
+        Ok(Some(entry))
+    }
 }
 
-// An entry of a kind around an error that the layer has. `value` is the number by which the kind was named.
-pub(crate) fn add<H: Host>(
-    lower: &H,
-    entries: &mut Entries,
-    error: u16,
-    kind: Option<Kind>,
-    value: u8,
-    text: EntryText,
-) -> Result<u16, LayerFault>
-    requires { Wraps kind }
-    ensures answered { result ≡ wrap_answer (layered (H.Host.errors lower.now) entries.old error) error kind value entries.old }
-    ensures errors { (e : ℕ) → layered (H.Host.errors lower.now) entries.new e ≡ gained (layered (H.Host.errors lower.now) entries.old) kind (entry_text text (layered (H.Host.errors lower.now) entries.old error)) error result e }
-    ensures spans { entries.new.below ≡ entries.old.below }
-    ensures counted { entries.new.count ≡ count_after entries.old.count result }
-{
-    self::kind(lower, entries, error)?;
-    let Some(kind) = kind else {
-        return Err(LayerFault::NotNamed(value));
-    };
-    let foot = entries.foot(error);
-    let silent = text.is_empty(foot);
-    entries.push(Entry {
-        error,
-        kind,
-        foot: Foot {
-            base: foot.base,
-            silent,
-        },
-    })
+impl<H: Host, K> Host for Layer<H, K> {
+    ghost errors = { λ s. layered (H.Host.errors s.lower) s.entries };
+
+    ghost extent = { λ s. layered_span s.entries };
+
+    ghost lawful = { λ h. layer_lawful _ _ (H.Host.lawful h.lower) h.entries h.table };
+
+    fn kind(&self, error: u16) -> Result<Kind, HostFault> {
+        match self.resolve(error)? {
+            Some(entry) => Ok(entry.kind),
+            None => self.lower.kind(error),
+        }
+    }
+
+    fn source(&self, error: u16) -> Result<Option<u16>, HostFault> {
+        match self.resolve(error)? {
+            Some(entry) => Ok(Some(entry.error)),
+            None => self.lower.source(error),
+        }
+    }
+
+    fn text_len(&self, error: u16) -> Result<usize, HostFault> {
+        match self.resolve(error)? {
+            Some(entry) if entry.foot.silent => Ok(0),
+            Some(entry) => self.lower.text_len(entry.foot.base),
+            None => self.lower.text_len(error),
+        }
+    }
+
+    fn text(&self, error: u16, part: &mut [u8]) -> Result<usize, HostFault> {
+        match self.resolve(error)? {
+            Some(entry) if entry.foot.silent => Ok(0),
+            Some(entry) => self.lower.text(entry.foot.base, part),
+            None => self.lower.text(error, part),
+        }
+    }
+
+    fn span(&self) -> u32 {
+        (self.entries.below() + 64).min(65536)
+    }
+}
+
+impl<H: Host, K: EntryKind> Layer<H, K> {
+    // An entry of the kind that a number names, around an error of the layer. The caller has a number and no `Kind`: one that
+    // names nothing is refused, as the project asks.
+    pub fn wrap(&mut self, error: u16, number: u8) -> Result<u16, LayerFault>
+        ensures answered { result ≡ wrap_answer (layered (H.Host.errors self.old.lower) self.old.entries error) error (K.kind_at number) number self.old.entries }
+        ensures errors { (e : ℕ) → layered (H.Host.errors self.new.lower) self.new.entries e ≡ gained (layered (H.Host.errors self.old.lower) self.old.entries) (K.kind_at number) (if K.keeps_text then told_text (layered (H.Host.errors self.old.lower) self.old.entries) error else []) error result e }
+        ensures counted { array_vec_len self.new.entries.items ≡ count_after (array_vec_len self.old.entries.items) result }
+        ensures spans { self.new.entries.below ≡ self.old.entries.below }
+        ensures lower { self.new.lower ≡ self.old.lower }
+    {
+        self.kind(error)?;
+        let kind = K::kind(number)?;
+        let foot = K::rest(self.entries.foot(error));
+        self.entries.push(Entry { error, kind, foot })
+    }
+}
+
+impl<H: GrowingHost, K: EntryKind> GrowingHost for Layer<H, K> {
+    type Addition = LayerAddition<H::Addition>;
+
+    fn add(&mut self, addition: LayerAddition<H::Addition>) -> Result<u16, LayerFault>
+        ensures spans { layered_span self.new.entries ≡ layered_span self.old.entries }
+        ensures extends { Extends (layered (H.Host.errors self.old.lower) self.old.entries) (layered (H.Host.errors self.new.lower) self.new.entries) }
+        ensures added { Added (layered (H.Host.errors self.old.lower) self.old.entries) (layered (H.Host.errors self.new.lower) self.new.entries) self.old.entries K.kind_at (λ e. if K.keeps_text then told_text (layered (H.Host.errors self.old.lower) self.old.entries) e else []) addition result }
+    {
+        match addition {
+            LayerAddition::Wrap { error, value } => self.wrap(error, value),
+            LayerAddition::Below(below) => self.lower.add(below),
+        }
+    }
 }

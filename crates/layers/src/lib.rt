@@ -4,6 +4,7 @@
 pub mod addition;
 pub mod entries;
 pub mod entry;
-mod layer;
+pub mod entry_kind;
+pub mod layer;
 pub mod marked;
 pub mod wrapped;

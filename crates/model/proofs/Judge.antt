@@ -35,13 +35,13 @@ Decided h c (e ∷ rest) = (any (λ d. is_challenge (h d)) rest ≡ beneath c e)
 module _ (h : Errors) where
   -- the deepest challenge is one of the list
   deepest-below : (n : ℕ) (xs : List ℕ) (d : ℕ) → AllBelow n xs → deepest h xs ≡ Some d → d < n
-  deepest-below n [] d b q = absurd (let z : ◌≡◌ {A = ℕ} 0 1 = cc in omega arith)
+  deepest-below n [] d b q = absurd cc
   deepest-below n (x ∷ xs) d b q = go (deepest-below n xs d b.1) (deepest h xs) refl (is_challenge (h x)) q
     where
       go : (deepest h xs ≡ Some d → d < n) → (o : Option ℕ) → deepest h xs ≡ o → (t : Bool) → or o (cond t (Some x) None) ≡ Some d → d < n
       go rest (Some y) p t r = rest (p ∙ r)
       go rest None p true r = let e : x ≡ d = cc in let f = b.0 in omega arith
-      go rest None p false r = absurd (let z : ◌≡◌ {A = ℕ} 0 1 = cc in omega arith)
+      go rest None p false r = absurd cc
 
   -- there is a deepest challenge exactly where there is one
   any-deepest : (xs : List ℕ) → any (λ d. is_challenge (h d)) xs ≡ is_some (deepest h xs)
@@ -76,7 +76,7 @@ module _ (h : Errors) where
         subst (λ (c : Option ℕ). Decided h c xs) p d,
       )
       go None p true d a = (a ∙ ap is_some p ∙ sym (le-ltb x x (omega arith)), none_decided (Some x) xs (a ∙ ap is_some p) (λ n e. subst (λ (k : ℕ). AllBelow k xs) (let q : x ≡ n = cc in q) f.0))
-      go None p false d a = (a ∙ ap is_some p, none_decided None xs (a ∙ ap is_some p) (λ n e. absurd (let z : ◌≡◌ {A = ℕ} 0 1 = cc in omega arith)))
+      go None p false d a = (a ∙ ap is_some p, none_decided None xs (a ∙ ap is_some p) (λ n e. absurd cc))
 
 module _ (h : Errors) (span : ℕ) (l : Lawful h span) where
   chain-below : (f n : ℕ) (o : Option ℕ) → LiveOrNone h o → bound o ≤ n → AllBelow n (chain_up_to h f o)

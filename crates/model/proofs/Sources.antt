@@ -4,7 +4,7 @@ use Rattle.model.specs.Host.{Error, Errors, Lawful}
 use Rattle.model.specs.Sources.{source_of, chain_up_to, bound, chain_from, chain, sources, LiveOrNone}
 
 pub live-told : (o : Option Error) → is_some o ≡ true → (m : Error) × (o ≡ Some m)
-live-told None e = absurd (let z : ◌≡◌ {A = ℕ} 0 1 = cc in omega arith)
+live-told None e = absurd cc
 live-told (Some m) e = (m, refl)
 
 pub chain_short : (h : Errors) (f : ℕ) (o : Option ℕ) → length (chain_up_to h f o) ≤ f

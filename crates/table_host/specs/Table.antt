@@ -1,9 +1,7 @@
 -- The table host: the errors of the caller's records.
-use Rattle.std.specs.Prelude.{◌≡◌, ℕ, zero, suc, ◌+◌, min, Bool, true, false, cond, not, ◌&&◌, List, length, take, drop, Some, None, Ok, Err, Option, Result, nat_le, nat_lt}
+use Rattle.std.specs.Prelude.{ℕ, zero, suc, ◌+◌, min, Bool, true, false, cond, not, ◌&&◌, List, length, take, drop, Some, None, Option, nat_le, nat_lt}
 use Rattle.std.specs.Option.{option_map}
 use Rattle.std.specs.List.{slice_get}
-use Rattle.vocabulary.specs.declared.fault.HostFault.{HostFault}
-use Rattle.vocabulary.specs.declared.fault.HostFault.TheVariants.{NotLive}
 use Rattle.vocabulary.specs.Kind.{kind_at, sourceless}
 use Rattle.vocabulary.specs.declared.kind.Kind.{Kind}
 use Rattle.model.specs.Host.{Error, Errors}
@@ -61,7 +59,6 @@ table_errors records bytes e = cond (live records (length bytes) e) (record_told
 abbrev pub table_span : List Record → ℕ
 table_span records = min (length records) 65536
 
--- the record of a live error, or the refusal
-abbrev pub RecordRead : List Record → ℕ → ℕ → Result Record HostFault → Type 0
-RecordRead records size e (Ok r) = (live records size e ≡ true) × (slice_get records e ≡ Some r)
-RecordRead records size e (Err f) = (live records size e ≡ false) × (f ≡ NotLive e)
+-- the record of a live error
+abbrev pub live_record : List Record → ℕ → ℕ → Option Record
+live_record records size e = cond (live records size e) (slice_get records e) None

@@ -1,18 +1,18 @@
 -- Which records are live, and that the table host keeps the rules of a host.
-use Rattle.std.specs.Prelude.{◌≡◌, ℕ, zero, suc, ◌+◌, ◌<◌, ◌≤◌, min, Bool, true, false, cond, not, ◌&&◌, ◌⊎◌, List, [], ◌∷◌, ◌++◌, length, get_or, take, drop, is_some, Some, None, Ok, Err, Option, nat_le, nat_lt, slice_index_or, refl}
-use Rattle.std.proofs.Common.{sym, ap, subst, ◌∙◌, inl, inr, ⊎_elim, arith, length-take, length-drop, length-append, below_more, ltb-true, leb-true, lt-ltb}
+use Rattle.std.specs.Prelude.{◌≡◌, ℕ, zero, suc, ◌+◌, ◌-◌, ◌<◌, ◌≤◌, Bool, true, false, cond, not, ◌&&◌, List, [], ◌∷◌, ◌++◌, length, get_or, take, drop, is_some, Some, None, Ok, Err, Option, nat_le, nat_lt, ok_or, slice_index_or, refl}
+use Rattle.std.proofs.Common.{sym, ap, subst, ◌∙◌, ⊎_elim, arith, length-take, length-drop, length-append, below_more, ltb-true, leb-true, lt-ltb}
 use Rattle.std.proofs.Math.Bool.{and-true}
-use Rattle.std.proofs.Math.Nat.{le-min, min-eq_left, min-le_left, min-le_right}
-use Rattle.std.proofs.lemmas.Bool.{and_parts, cases_Bool, cases_lt, cond-true, not-true}
-use Rattle.std.proofs.lemmas.List.{get_or_append_left, get_or_at, get_or_past}
+use Rattle.std.proofs.Math.Nat.{le-min, min-eq_left, min-le_right}
+use Rattle.std.proofs.lemmas.Bool.{and_parts, cases_lt, cond-true, not-true}
+use Rattle.std.proofs.lemmas.List.{drop_more, get_or_append_left, get_or_at, get_or_past}
 use Rattle.std.proofs.lemmas.Option.{slice_get_past, slice_get-get_or}
 use Rattle.std.specs.Option.{option_map}
 use Rattle.std.specs.List.{slice_get}
 use Rattle.vocabulary.specs.Kind.{sourceless}
 use Rattle.vocabulary.specs.declared.kind.Kind.{Kind}
-use Rattle.vocabulary.specs.declared.fault.HostFault.TheVariants.{TextTooLong}
+use Rattle.vocabulary.specs.declared.fault.HostFault.TheVariants.{NotLive, TextTooLong}
 use Rattle.model.specs.Host.{Error, Lawful, Live, answer, text_answer, text_filled}
-use Rattle.table_host.specs.Table.{record_kind, kind_fits, record_fits, source_live, record_live, live_within, live, record_error, record_told, table_errors, table_span}
+use Rattle.table_host.specs.Table.{live_record, record_kind, kind_fits, record_fits, source_live, record_live, live_within, live, record_error, record_told, table_errors, table_span}
 use Rattle.table_host.specs.declared.record.Record.{Record}
 
 blank : Record
@@ -23,22 +23,18 @@ fits_source : (size e d : ℕ) (r : Record) → record_fits size e r ≡ true �
 fits_source size e d r t s = go (record_kind r) (subst (λ (o : Option ℕ). kind_fits e (record_kind r) o ≡ true) s (and_parts _ _ t).0)
   where
     go : (k : Option Kind) → kind_fits e k (Some d) ≡ true → d < e
-    go None q = absurd (let z : ◌≡◌ {A = ℕ} 0 1 = cc in omega arith)
+    go None q = absurd cc
     go (Some k) q = ltb-true d e (and_parts _ _ q).0
 
 -- Liveness depends only on the liveness of smaller numbers.
 same_below : (size e : ℕ) (f g : ℕ → Bool) (o : Option Record) → ((d : ℕ) → d < e → f d ≡ g d) → record_live size f e o ≡ record_live size g e o
 same_below size e f g None h = refl
-same_below size e f g (Some r) h = go r.source refl (cases_Bool (record_fits size e r))
+same_below size e f g (Some r) h = go (record_fits size e r) r.source (λ t d s. h d (fits_source size e d r t s))
   where
-    go : (s : Option ℕ) → r.source ≡ s → (record_fits size e r ≡ true) ⊎ (record_fits size e r ≡ false) → record_live size f e (Some r) ≡ record_live size g e (Some r)
-    go None s b = ap (λ (o : Option ℕ). ((record_fits size e r && source_live f o) && nat_lt e 65536)) s ∙ sym (ap (λ (o : Option ℕ). ((record_fits size e r && source_live g o) && nat_lt e 65536)) s)
-    go (Some d) s (inl t) =
-        ap (λ (o : Option ℕ). ((record_fits size e r && source_live f o) && nat_lt e 65536)) s
-        ∙ ap (λ (b : Bool). ((record_fits size e r && b) && nat_lt e 65536)) (h d (fits_source size e d r t s))
-        ∙ sym (ap (λ (o : Option ℕ). ((record_fits size e r && source_live g o) && nat_lt e 65536)) s)
-    go (Some d) s (inr t) =
-        ap (λ (b : Bool). ((b && source_live f r.source) && nat_lt e 65536)) t ∙ sym (ap (λ (b : Bool). ((b && source_live g r.source) && nat_lt e 65536)) t)
+    go : (b : Bool) (s : Option ℕ) → (b ≡ true → (d : ℕ) → s ≡ Some d → f d ≡ g d) → ((b && source_live f s) && nat_lt e 65536) ≡ ((b && source_live g s) && nat_lt e 65536)
+    go false s k = refl
+    go true None k = refl
+    go true (Some d) k = ap (λ (b : Bool). (b && nat_lt e 65536)) (k refl d refl)
 
 module _ (records : List Record) (size : ℕ) where
   same_limit : (f g e : ℕ) → e < f → e < g → live_within records size f e ≡ live_within records size g e
@@ -65,163 +61,172 @@ module _ (records : List Record) (size : ℕ) where
 
   -- a live number has a record
   pub live-read : (e : ℕ) → live records size e ≡ true → e < length records
-  live-read e t = ⊎_elim (λ h. h) (λ h. let f : false ≡ true = ap (record_live size (live records size) e) (sym (slice_get_past records e h)) ∙ sym (live_is e) ∙ t in absurd (let z : ◌≡◌ {A = ℕ} 0 1 = cc in omega arith)) (cases_lt e (length records))
+  live-read e t = ⊎_elim (λ h. h) (λ h. let f : false ≡ true = ap (record_live size (live records size) e) (sym (slice_get_past records e h)) ∙ sym (live_is e) ∙ t in absurd cc) (cases_lt e (length records))
 
-  -- the marks after a pass over the first `count` records
-  abbrev pub Marks : List Bool → ℕ → Type 0
-  Marks marks count = (length marks ≡ count) × ((e : ℕ) → e < count → slice_index_or marks e false ≡ live records size e)
-
-  pub marks_none : Marks [] 0
-  marks_none = (refl, λ e h. absurd (omega arith))
+  -- what a pass has come to: its marks, the records that are left of those that may be live, and how many it has read
+  pub record Pass (marks : List Bool) (rest : List Record) (left e : ℕ) : Type 0 where
+    pub count : length marks ≡ e
+    pub marks_are : (d : ℕ) → d < e → slice_index_or marks d false ≡ live records size d
+    pub rest_is : rest ≡ drop e records
+    pub left_is : left + e ≡ 65536
 
   -- one record more, judged by the marks of those before it
-  pub marks_more : (marks seen marks' : List Bool) (e limit : ℕ) (d : Record) (b : Bool) → Marks marks e → limit ≡ min (length records) 65536 → e < limit → seen ≡ marks
-      → b ≡ (record_fits size e (slice_index_or records e d) && source_live (λ s. get_or seen s false) (get_or records e d).source)
-      → marks' ≡ marks ++ b ∷ [] → Marks marks' (e + 1)
-  marks_more marks seen marks' e limit d b m lim under same q p =
-      (ap length p ∙ simp length-append (let l = m.0 in omega arith), below_more _ e old new)
+  pub pass_more : {marks seen marks' : List Bool} {rest rest' : List Record} {left left' e e' number : ℕ} {x : Record} {b : Bool} → Pass marks rest left e
+      → rest ≡ x ∷ rest' → left' + 1 ≡ left → number ≡ e → e' ≡ e + 1 → seen ≡ marks
+      → b ≡ (record_fits size number x && source_live (λ s. get_or seen s false) x.source) → marks' ≡ marks ++ b ∷ [] → Pass marks' rest' left' e'
+  pass_more {marks} {seen} {marks'} {rest} {rest'} {left} {left'} {e} {e'} {number} {x} {b} m r l at next same q p =
+      subst (λ (k : ℕ). Pass marks' rest' left' k) (sym next) (record {
+        count = ap length p ∙ simp length-append (let n = m.count in omega arith);
+        marks_are = below_more _ e old new;
+        rest_is = let n = drop_more records e x within in cc;
+        left_is = let n = m.left_is in omega arith;
+      })
     where
+      within : e < length records
+      within = let n = ap (λ (xs : List Record). length xs) (sym m.rest_is ∙ r) in omega (arith, length-drop e records)
+
+      read : slice_get records e ≡ Some x
+      read = let n = drop_more records e x within in let s = slice_get-get_or records e x within in cc
+
       old : (k : ℕ) → k < e → slice_index_or marks' k false ≡ live records size k
-      old k l = let n = m.0 in ap (λ (xs : List Bool). get_or xs k false) p ∙ get_or_append_left marks (b ∷ []) false k (omega arith) ∙ m.1 k l
+      old k l = let n = m.count in ap (λ (xs : List Bool). get_or xs k false) p ∙ get_or_append_left marks (b ∷ []) false k (omega arith) ∙ m.marks_are k l
 
       judged : b ≡ live records size e
       judged =
-          let h : e < length records = let l = min-le_left (length records) 65536 in omega arith in
-          let s : e < 65536 = let l = min-le_right (length records) 65536 in omega arith in
+          let s : e < 65536 = let n = m.left_is in omega arith in
           q
-          ∙ ap (λ (xs : List Bool). (record_fits size e (slice_index_or records e d) && source_live (λ s. get_or xs s false) (get_or records e d).source)) same
-          ∙ sym (and-true (record_fits size e (slice_index_or records e d) && source_live (λ s. get_or marks s false) (get_or records e d).source))
-          ∙ ap (λ (t : Bool). ((record_fits size e (slice_index_or records e d) && source_live (λ s. get_or marks s false) (get_or records e d).source) && t)) (sym (lt-ltb e 65536 s))
-          ∙ same_below size e (λ s. get_or marks s false) (live records size) (Some (slice_index_or records e d)) m.1
-          ∙ ap (record_live size (live records size) e) (sym (slice_get-get_or records e d h))
+          ∙ ap (λ (k : ℕ). (record_fits size k x && source_live (λ s. get_or seen s false) x.source)) at
+          ∙ ap (λ (xs : List Bool). (record_fits size e x && source_live (λ s. get_or xs s false) x.source)) same
+          ∙ sym (and-true (record_fits size e x && source_live (λ s. get_or marks s false) x.source))
+          ∙ ap (λ (t : Bool). ((record_fits size e x && source_live (λ s. get_or marks s false) x.source) && t)) (sym (lt-ltb e 65536 s))
+          ∙ same_below size e (λ s. get_or marks s false) (live records size) (Some x) m.marks_are
+          ∙ ap (record_live size (live records size) e) (sym read)
           ∙ sym (live_is e)
 
       new : get_or marks' e false ≡ live records size e
-      new = ap (λ (xs : List Bool). get_or xs e false) p ∙ get_or_at marks b [] false e m.0 ∙ judged
+      new = ap (λ (xs : List Bool). get_or xs e false) p ∙ get_or_at marks b [] false e m.count ∙ judged
 
   -- past the pass there is no live record
-  pub marks_all : (marks : List Bool) (count : ℕ) → Marks marks count → count ≡ min (length records) 65536 → (e : ℕ) → slice_index_or marks e false ≡ live records size e
-  marks_all marks count m lim e = ⊎_elim (m.1 e) past (cases_lt e count)
+  pub pass_ends : {marks : List Bool} {rest : List Record} {left count : ℕ} → Pass marks rest left count → (0 < left → length rest ≡ 0) → (e : ℕ) → slice_index_or marks e false ≡ live records size e
+  pass_ends {marks} {rest} {left} {count} m done e = ⊎_elim (m.marks_are e) past (cases_lt e count)
     where
       absent : count ≤ e → (b : Bool) → live records size e ≡ b → false ≡ live records size e
       absent h false q = sym q
       absent h true q =
           let r = live-read e q in
           let f = (facts e (slice_index_or records e blank) q (slice_get-get_or records e blank r)).small in
-          let k : e + 1 ≤ min (length records) 65536 = le-min (omega arith) (omega arith) in
-          absurd (omega arith)
+          let n : 0 < left = let l = m.left_is in omega arith in
+          let k = sym (ap (λ (xs : List Record). length xs) m.rest_is) ∙ done n in
+          absurd (omega (arith, length-drop count records))
 
       past : count ≤ e → slice_index_or marks e false ≡ live records size e
-      past h = get_or_past marks e false (let n = m.0 in omega arith) ∙ absent h (live records size e) refl
+      past h = get_or_past marks e false (let n = m.count in omega arith) ∙ absent h (live records size e) refl
 
 -- what is told of a live record
-record Told (bytes : List ℕ) (r : Record) (o : Option Error) : Type 0 where
+record Told (records : List Record) (bytes : List ℕ) (e : ℕ) (r : Record) : Type 0 where
+  rules : Facts records (length bytes) e r
+  within : e < length records
   kind : Kind
   named : record_kind r ≡ Some kind
-  is : o ≡ Some (record_error bytes r kind)
+  is : table_errors records bytes e ≡ Some (record_error bytes r kind)
 
-kind_named : (e : ℕ) (k : Option Kind) (s : Option ℕ) → kind_fits e k s ≡ true → (x : Kind) × (k ≡ Some x)
-kind_named e None s q = absurd (let z : ◌≡◌ {A = ℕ} 0 1 = cc in omega arith)
-kind_named e (Some x) s q = (x, refl)
+told : (records : List Record) (bytes : List ℕ) (e : ℕ) (r : Record) → live records (length bytes) e ≡ true → slice_get records e ≡ Some r → Told records bytes e r
+told records bytes e r t n =
+    let f = facts records (length bytes) e r t n in
+    go f (record_kind r) refl (and_parts _ _ f.fits).0
+  where
+    go : Facts records (length bytes) e r → (k : Option Kind) → record_kind r ≡ k → kind_fits e k r.source ≡ true → Told records bytes e r
+    go f None q b = absurd cc
+    go f (Some k) q b =
+        record {
+          rules = f;
+          within = live-read records (length bytes) e t;
+          kind = k;
+          named = q;
+          is = cond-true (live records (length bytes) e) _ _ t ∙ ap (record_told bytes) n ∙ ap (option_map (record_error bytes r)) q;
+        }
 
-module _ (records : List Record) (bytes : List ℕ) (e : ℕ) (r : Record) (t : live records (length bytes) e ≡ true) (n : slice_get records e ≡ Some r) where
-  fitting : record_fits (length bytes) e r ≡ true
-  fitting = (facts records (length bytes) e r t n).fits
+text_within : (size e : ℕ) (r : Record) → record_fits size e r ≡ true → (r.len ≤ 255) × (r.start + r.len ≤ size)
+text_within size e r f = let p = and_parts _ _ (and_parts _ _ f).1 in (leb-true r.len 255 p.0, leb-true (r.start + r.len) size p.1)
 
-  pub text_fits_lem : (r.len ≤ 255) × (r.start + r.len ≤ length bytes)
-  text_fits_lem = let p = and_parts _ _ (and_parts _ _ fitting).1 in (leb-true r.len 255 p.0, leb-true (r.start + r.len) (length bytes) p.1)
+text_length : (bytes : List ℕ) (e : ℕ) (r : Record) → record_fits (length bytes) e r ≡ true → length (take r.len (drop r.start bytes)) ≡ r.len
+text_length bytes e r f = let w = text_within (length bytes) e r f in simp (length-take, length-drop) (min-eq_left (omega arith))
 
-  told : Told bytes r (table_errors records bytes e)
-  told =
-      let k = kind_named e (record_kind r) r.source (and_parts _ _ fitting).0 in
-      record {
-        kind = k.0;
-        named = k.1;
-        is = cond-true (live records (length bytes) e) _ _ t ∙ ap (record_told bytes) n ∙ ap (option_map (record_error bytes r)) k.1;
-      }
+-- the record that was read of an error, where one was
+module _ (records : List Record) (bytes : List ℕ) (e : ℕ) (r : Record) (q : Ok r ≡ ok_or (live_record records (length bytes) e) (NotLive e)) where
+  it : Told records bytes e r
+  it = go (live records (length bytes) e) (slice_get records e) refl refl q
+    where
+      go : (b : Bool) (o : Option Record) → live records (length bytes) e ≡ b → slice_get records e ≡ o → Ok r ≡ ok_or (cond b o None) (NotLive e) → Told records bytes e r
+      go true (Some x) t n p = told records bytes e r t (n ∙ (let s : Some x ≡ Some r = cc in s))
+      go true None t n p = absurd cc
+      go false o t n p = absurd cc
 
-  pub kind_told : (k : Kind) → Some k ≡ record_kind r → Ok k ≡ answer (table_errors records bytes e) e (λ m. m.kind)
-  kind_told k q = let w = told in ap Ok (let s : Some k ≡ Some w.kind = q ∙ w.named in cc) ∙ sym (ap (λ o. answer o e (λ m. m.kind)) w.is)
-
-  pub no_kind : None ≡ record_kind r → ⊥
-  no_kind q = let w = told in let s : None ≡ Some w.kind = q ∙ w.named in let z : ◌≡◌ {A = ℕ} 0 1 = cc in omega arith
+  pub kind_told : ok_or (record_kind r) (NotLive e) ≡ answer (table_errors records bytes e) e (λ m. m.kind)
+  kind_told = ap (λ (k : Option Kind). ok_or k (NotLive e)) it.named ∙ sym (ap (λ o. answer o e (λ m. m.kind)) it.is)
 
   pub source_told : Ok r.source ≡ answer (table_errors records bytes e) e (λ m. m.source)
-  source_told = sym (ap (λ o. answer o e (λ m. m.source)) told.is)
+  source_told = sym (ap (λ o. answer o e (λ m. m.source)) it.is)
 
-  text_length : length (take r.len (drop r.start bytes)) ≡ r.len
-  text_length = let f = text_fits_lem.1 in simp (length-take, length-drop) (min-eq_left (omega arith))
+  pub length_told : Ok r.len ≡ answer (table_errors records bytes e) e (λ m. length m.text)
+  length_told = ap Ok (sym (text_length bytes e r it.rules.fits)) ∙ sym (ap (λ o. answer o e (λ m. length m.text)) it.is)
 
-  pub length-told : Ok r.len ≡ answer (table_errors records bytes e) e (λ m. length m.text)
-  length-told = ap Ok (sym text_length) ∙ sym (ap (λ o. answer o e (λ m. length m.text)) told.is)
+  pub text_ends : r.start + r.len ≤ length bytes
+  text_ends = (text_within (length bytes) e r it.rules.fits).1
 
-  pub text_answered : (part text : List ℕ) → text ≡ take r.len (drop r.start bytes)
-      → cond (nat_le (length text) (length part)) (Ok (length text)) (Err (TextTooLong (length text))) ≡ text_answer (table_errors records bytes e) e (length part)
-  text_answered part text q =
-      ap (λ (x : List ℕ). text_answer (Some (record { kind = told.kind; text = x; source = r.source })) e (length part)) q ∙ sym (ap (λ o. text_answer o e (length part)) told.is)
+  -- the text, as the part of the bytes that is read
+  module _ (part seen text : List ℕ) (s : seen ≡ bytes) (t : text ≡ take (r.start + r.len - r.start) (drop r.start seen)) where
+    its_text : text ≡ take r.len (drop r.start bytes)
+    its_text = let n : r.start + r.len - r.start ≡ r.len = omega arith in t ∙ ap (λ (k : ℕ). take k (drop r.start seen)) n ∙ ap (λ (xs : List ℕ). take r.len (drop r.start xs)) s
 
-  pub text_filled_lem : (part text : List ℕ) → text ≡ take r.len (drop r.start bytes)
-      → cond (nat_le (length text) (length part)) (text ++ drop (length text) part) part ≡ text_filled (table_errors records bytes e) part
-  text_filled_lem part text q =
-      ap (λ (x : List ℕ). text_filled (Some (record { kind = told.kind; text = x; source = r.source })) part) q ∙ sym (ap (λ o. text_filled o part) told.is)
+    pub text_answered : cond (nat_le (length text) (length part)) (Ok (length text)) (Err (TextTooLong (length text))) ≡ text_answer (table_errors records bytes e) e (length part)
+    text_answered = ap (λ (x : List ℕ). text_answer (Some (record { kind = it.kind; text = x; source = r.source })) e (length part)) its_text ∙ sym (ap (λ o. text_answer o e (length part)) it.is)
 
--- a number whose mark is read as true is live
-pub mark_true : (records : List Record) (size : ℕ) (marks seen : List Bool) (e : ℕ) (b : Bool) → seen ≡ marks → ((k : ℕ) → slice_index_or marks k false ≡ live records size k)
-    → b ≡ slice_index_or seen e false → b ≡ true → live records size e ≡ true
-mark_true records size marks seen e b same all q t = sym (all e) ∙ ap (λ (xs : List Bool). get_or xs e false) (sym same) ∙ sym q ∙ t
+    pub text_put : cond (nat_le (length text) (length part)) (text ++ drop (length text) part) part ≡ text_filled (table_errors records bytes e) part
+    text_put = ap (λ (x : List ℕ). text_filled (Some (record { kind = it.kind; text = x; source = r.source })) part) its_text ∙ sym (ap (λ o. text_filled o part) it.is)
 
 -- every error of the table is a live record's
 record Read (records : List Record) (bytes : List ℕ) (e : ℕ) (m : Error) : Type 0 where
   item : Record
-  lives : live records (length bytes) e ≡ true
-  found : slice_get records e ≡ Some item
-  kind : Kind
-  named : record_kind item ≡ Some kind
-  is : record_error bytes item kind ≡ m
+  told_of : Told records bytes e item
+  is : record_error bytes item told_of.kind ≡ m
 
 reads : (records : List Record) (bytes : List ℕ) (e : ℕ) (m : Error) → table_errors records bytes e ≡ Some m → Read records bytes e m
-reads records bytes e m q = go (live records (length bytes) e) refl q
+reads records bytes e m q = go (live records (length bytes) e) (slice_get records e) refl refl q
   where
-    named : (r : Record) (k : Option Kind) → option_map (record_error bytes r) k ≡ Some m → (x : Kind) × (k ≡ Some x) × (record_error bytes r x ≡ m)
-    named r None p = absurd (let z : ◌≡◌ {A = ℕ} 0 1 = cc in omega arith)
-    named r (Some k) p = (k, refl, (let n : record_error bytes r k ≡ m = cc in n))
-
-    found : (o : Option Record) → slice_get records e ≡ o → live records (length bytes) e ≡ true → record_told bytes o ≡ Some m → Read records bytes e m
-    found None n t p = absurd (let z : ◌≡◌ {A = ℕ} 0 1 = cc in omega arith)
-    found (Some r) n t p = let k = named r (record_kind r) p in record { item = r; lives = t; found = n; kind = k.0; named = k.1; is = k.2 }
-
-    go : (b : Bool) → live records (length bytes) e ≡ b → cond b (record_told bytes (slice_get records e)) None ≡ Some m → Read records bytes e m
-    go true t p = found (slice_get records e) refl t p
-    go false t p = absurd (let z : ◌≡◌ {A = ℕ} 0 1 = cc in omega arith)
+    go : (b : Bool) (o : Option Record) → live records (length bytes) e ≡ b → slice_get records e ≡ o → cond b (record_told bytes o) None ≡ Some m → Read records bytes e m
+    go true (Some r) t n p = let w = told records bytes e r t n in record { item = r; told_of = w; is = let s : Some (record_error bytes r w.kind) ≡ Some m = sym w.is ∙ q in cc }
+    go true None t n p = absurd cc
+    go false o t n p = absurd cc
 
 module _ (records : List Record) (bytes : List ℕ) (e d : ℕ) (m : Error) (r : Read records bytes e m) (s : m.source ≡ Some d) where
   its_source : r.item.source ≡ Some d
   its_source = ap (λ (x : Error). x.source) r.is ∙ s
 
   source_falls : d < e
-  source_falls = fits_source (length bytes) e d r.item (fitting records bytes e r.item r.lives r.found) its_source
+  source_falls = fits_source (length bytes) e d r.item r.told_of.rules.fits its_source
 
   source_lives : Live (table_errors records bytes) d
   source_lives =
-      let t : live records (length bytes) d ≡ true = ap (source_live (live records (length bytes))) (sym its_source) ∙ (facts records (length bytes) e r.item r.lives r.found).source in
-      let l = live-read records (length bytes) d t in
-      ap is_some (told records bytes d (slice_index_or records d blank) t (slice_get-get_or records d blank l)).is
+      let t : live records (length bytes) d ≡ true = ap (source_live (live records (length bytes))) (sym its_source) ∙ r.told_of.rules.source in
+      ap is_some (told records bytes d (slice_index_or records d blank) t (slice_get-get_or records d blank (live-read records (length bytes) d t))).is
 
   bare-source : sourceless m.kind ≡ true → ⊥
   bare-source b =
-      let f : kind_fits e (Some r.kind) (Some d) ≡ true = ap (λ (k : Option Kind). kind_fits e k (Some d)) (sym r.named) ∙ ap (kind_fits e (record_kind r.item)) (sym its_source) ∙ (and_parts _ _ (fitting records bytes e r.item r.lives r.found)).0 in
-      let g : sourceless r.kind ≡ false = not-true (sourceless r.kind) (and_parts (nat_lt d e) (not (sourceless r.kind)) f).1 in
-      let h : sourceless r.kind ≡ true = ap (λ (x : Error). sourceless x.kind) r.is ∙ b in
-      let z : ◌≡◌ {A = ℕ} 0 1 = cc in omega arith
+      let k = r.told_of in
+      let f : kind_fits e (Some k.kind) (Some d) ≡ true = ap (λ (k : Option Kind). kind_fits e k (Some d)) (sym k.named) ∙ ap (kind_fits e (record_kind r.item)) (sym its_source) ∙ (and_parts _ _ k.rules.fits).0 in
+      let g : sourceless k.kind ≡ false = not-true (sourceless k.kind) (and_parts (nat_lt d e) (not (sourceless k.kind)) f).1 in
+      let h : sourceless k.kind ≡ true = ap (λ (x : Error). sourceless x.kind) r.is ∙ b in
+      cc
 
 pub table_lawful : (records : List Record) (bytes : List ℕ) → Lawful (table_errors records bytes) (table_span records)
 table_lawful records bytes =
     record {
       small = min-le_right (length records) 65536;
-      within = λ e m q. let r = reads records bytes e m q in le-min (live-read records (length bytes) e r.lives) (facts records (length bytes) e r.item r.lives r.found).small;
+      within = λ e m q. let r = (reads records bytes e m q).told_of in le-min r.within r.rules.small;
       short = λ e m q. let r = reads records bytes e m q in
           subst (λ (x : Error). length x.text ≤ 255) r.is
-          (let f = (text_fits_lem records bytes e r.item r.lives r.found).0 in let l = text_length records bytes e r.item r.lives r.found in omega arith);
+          (let f = (text_within (length bytes) e r.item r.told_of.rules.fits).0 in let l = text_length bytes e r.item r.told_of.rules.fits in omega arith);
       bare = λ e m q b. no_source e m (reads records bytes e m q) b m.source refl;
       falls = λ e d m q s. source_falls records bytes e d m (reads records bytes e m q) s;
       lives = λ e d m q s. source_lives records bytes e d m (reads records bytes e m q) s;

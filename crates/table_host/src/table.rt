@@ -1,6 +1,7 @@
-ghost use Rattle.std.specs.Prelude.{◌≡◌, ℕ, Bool, false, ◌&&◌, length, IfOk, Ok, Err, vec_len, slice_index_or};
-ghost use Rattle.table_host.specs.Table.{live as live_in, record_fits, source_live, table_errors, table_span, RecordRead};
+ghost use Rattle.std.specs.Prelude.{◌≡◌, ℕ, Bool, false, ◌&&◌, length, IfOk, Ok, Err, vec_len, slice_index_or, ok_or};
+ghost use Rattle.table_host.specs.Table.{live as live_in, live_record, record_fits, record_kind, source_live, table_errors, table_span};
 ghost use Rattle.table_host.specs.TableLaws.{table_lawful};
+ghost use Rattle.vocabulary.specs.declared.fault.HostFault.TheVariants.{NotLive};
 ghost use Rattle.vocabulary.specs.declared.fault.LayerFault.TheVariants.{Full};
 
 use crate::record::Record;
@@ -10,8 +11,9 @@ use std::alloc::{AllocError, AllocFailed, Global};
 use vocabulary::fault::{HostFault, LayerFault};
 use vocabulary::kind::Kind;
 
-// The errors of the caller's records, whose texts lie in the caller's bytes; both are moved in. A record is live if it keeps the rules of a
-// host, its text lies in the bytes and its source, if any, is live; which are is decided once, when the table is made.
+// The errors of the caller's records, whose texts lie in the caller's bytes; both are moved in. A record is live if it
+// keeps the rules of a host, its text lies in the bytes and its source, if any, is live; which are is decided once, when
+// the table is made. The marks stand beside the records, which go back to the caller as the list that came.
 #[derive(Drop)]
 pub struct TableHost {
     records: Vec<Record>,
@@ -21,19 +23,25 @@ pub struct TableHost {
 }
 
 impl Record {
+    // The kind that the record's numbers name, if they name one.
+    fn named_kind(&self) -> Option<Kind>
+        ensures { result ≡ record_kind self.now }
+    {
+        Kind::try_from((self.kind, self.detail)).ok()
+    }
+
     // Whether the record of number `error` keeps the rules by itself, over so many bytes of text.
     fn fits(&self, error: u16, size: usize) -> bool
         ensures { result ≡ record_fits size error self.now }
     {
-        let Some(kind) = Kind::from_numbers(self.kind, self.detail) else {
+        // a closure around the rest would be no plainer
+        let Some(kind) = self.named_kind() else {
             return false;
         };
-        if let Some(source) = self.source {
-            if source >= error || kind.is_sourceless() {
-                return false;
-            }
-        }
-        self.len <= 255 && self.start as usize + self.len as usize <= size
+        let source_fits = self
+            .source
+            .is_none_or(|source| source < error && !kind.is_sourceless());
+        source_fits && self.len <= 255 && self.start as usize + self.len as usize <= size
     }
 }
 
@@ -41,25 +49,14 @@ impl Record {
 fn is_marked(live: &[bool], error: u16) -> bool
     ensures { result ≡ slice_index_or live.now error false }
 {
-    let error = error as usize;
-    if error < live.len() {
-        live[error]
-    } else {
-        false
-    }
+    live.get(usize::from(error)).copied().unwrap_or(false)
 }
 
 // Whether the record of number `error` is live, where those before it are marked.
 fn lives(live: &[bool], record: &Record, error: u16, size: usize) -> bool
     ensures { result ≡ record_fits size error «record».now && source_live (λ d. slice_index_or live.now d false) «record».now.source }
 {
-    if !record.fits(error, size) {
-        return false;
-    }
-    match record.source {
-        Some(source) => is_marked(live, source),
-        None => true,
-    }
+    record.fits(error, size) && record.source.is_none_or(|source| is_marked(live, source))
 }
 
 // One pass over the records, from the first to the last that can be live.
@@ -67,8 +64,8 @@ fn mark_live(heap: Global, records: &[Record], size: usize) -> Result<Vec<bool>,
     ensures { IfOk result (λ v. (e : ℕ) → slice_index_or v.items e false ≡ live_in records.now size e) }
 {
     let mut live = Vec::new(heap);
-    for error in 0..records.len().min(65536) {
-        let record_lives = lives(&live, &records[error], error as u16, size);
+    for (error, record) in records.iter().take(65536).enumerate() {
+        let record_lives = lives(&live, record, error as u16, size);
         live.push(record_lives)?;
     }
     Ok(live)
@@ -83,38 +80,35 @@ impl TableHost {
     ) -> Result<TableHost, AllocFailed<(Vec<Record>, Vec<u8>)>>
         ensures { elim result [ Ok t ↦ (t.records ≡ records) × (t.bytes ≡ bytes) | Err back ↦ back.value ≡ (records, bytes) ] }
     {
-        match mark_live(heap, &records, bytes.len()) {
-            Ok(live) => Ok(TableHost {
-                records,
-                bytes,
-                live,
-            }),
-            Err(_) => Err(AllocFailed {
+        // both ways move records and bytes, so no method of `Result` serves
+        let Ok(live) = mark_live(heap, &records, bytes.len()) else {
+            return Err(AllocFailed {
                 value: (records, bytes),
-            }),
-        }
+            });
+        };
+        Ok(TableHost {
+            records,
+            bytes,
+            live,
+        })
     }
 
     // The records and bytes again.
     pub fn into_parts(self) -> (Vec<Record>, Vec<u8>)
         ensures { result ≡ (self.records, self.bytes) }
     {
-        let TableHost {
-            records,
-            bytes,
-            live: _,
-        } = self;
-        (records, bytes)
+        (self.records, self.bytes)
     }
 
     // The record of a live error.
     fn record(&self, error: u16) -> Result<Record, HostFault>
-        ensures { RecordRead self.now.records.items (length self.now.bytes.items) error result }
+        ensures { result ≡ ok_or (live_record self.now.records.items (length self.now.bytes.items) error) (NotLive error) }
     {
-        if !is_marked(&self.live, error) {
-            return Err(HostFault::NotLive(error));
-        }
-        Ok(self.records[error as usize])
+        self.records
+            .get(usize::from(error))
+            .copied()
+            .filter(|_| is_marked(&self.live, error))
+            .ok_or(HostFault::NotLive(error))
     }
 }
 
@@ -125,22 +119,22 @@ impl Host for TableHost {
 
     ghost lawful = { λ h. table_lawful h.records.items h.bytes.items };
 
+    #[tactic(auto, using(crate::specs::TableLaws::kind_told))]
     fn kind(&self, error: u16) -> Result<Kind, HostFault> {
         let record = self.record(error)?;
-        match Kind::from_numbers(record.kind, record.detail) {
-            Some(kind) => Ok(kind),
-            None => Err(HostFault::NotLive(error)),
-        }
+        record.named_kind().ok_or(HostFault::NotLive(error))
     }
 
     fn source(&self, error: u16) -> Result<Option<u16>, HostFault> {
         Ok(self.record(error)?.source)
     }
 
+    #[tactic(auto, using(crate::specs::TableLaws::length_told))]
     fn text_len(&self, error: u16) -> Result<usize, HostFault> {
         Ok(self.record(error)?.len as usize)
     }
 
+    #[tactic(auto, using(crate::specs::TableLaws::text_ends))]
     fn text(&self, error: u16, part: &mut [u8]) -> Result<usize, HostFault> {
         let record = self.record(error)?;
         let start = record.start as usize;
@@ -156,6 +150,7 @@ impl Host for TableHost {
 }
 
 // The table host gains no errors: it has no room for any, and an addition says nothing.
+// Such hosts each write this body of one line: a shared one would take a marker trait, an impl over it and an impl of it.
 impl GrowingHost for TableHost {
     type Addition = ();
 

@@ -1,5 +1,5 @@
 -- The five kinds of error, and the numbers by which a record names one.
-use Rattle.std.specs.Prelude.{ℕ, Bool, true, false, cond, List, Some, None, Option, ◌==◌}
+use Rattle.std.specs.Prelude.{ℕ, Bool, true, false, cond, List, Some, None, Option, ◌==◌, nat_le}
 use Rattle.std.specs.Option.{option_map}
 use Rattle.classes.specs.Ascii.{ascii}
 use Rattle.classes.specs.Class.{class_at}
@@ -33,6 +33,10 @@ kind_at n d =
     (cond (n == 2) (option_map ClassificationMarker (class_at d))
     (cond (n == 3) (Some TryReserveError)
     (cond (n == 4) (option_map Io (io_kind_at d)) None))))
+
+-- which of the two numbers names nothing, where they name no kind
+abbrev pub unnamed : ℕ → ℕ → ℕ
+unnamed n d = cond (nat_le n 4) d n
 
 -- messages and reservation failures never have a source
 abbrev pub sourceless : Kind → Bool

@@ -1,7 +1,9 @@
 ghost use Rattle.std.specs.Prelude.{◌≡◌};
-ghost use Rattle.vocabulary.specs.declared.fault.LayerFault.TheVariants.{Host};
+ghost use Rattle.vocabulary.specs.declared.fault.LayerFault.TheVariants.{Host, NotNamed as Unnamed};
 ghost use Rattle.vocabulary.specs.declared.fault.StoreFault.TheVariants.{Host as Handed};
 ghost use Rattle.vocabulary.specs.Refusal.{host_fault_number, layer_fault_number, store_fault_number};
+
+use classes::class::NotNamed;
 
 // Why a host turns a question down.
 #[derive(Clone, Copy, Debug, PartialEq, Eq)]
@@ -13,6 +15,7 @@ pub enum HostFault {
 }
 
 impl HostFault {
+    // The number by which the refusal is documented; no `From`, as the fault has another number of its own beside it.
     pub fn number(self) -> u8
         ensures { result ≡ host_fault_number self }
     {
@@ -35,6 +38,7 @@ pub enum LayerFault {
 }
 
 impl LayerFault {
+    // As `HostFault::number`.
     pub fn number(self) -> u8
         ensures { result ≡ layer_fault_number self }
     {
@@ -43,6 +47,14 @@ impl LayerFault {
             LayerFault::NotNamed(_) => 7,
             LayerFault::Full(_) => 8,
         }
+    }
+}
+
+impl From<NotNamed> for LayerFault {
+    ghost from_gives = { λ e r. r ≡ Unnamed e.0 };
+
+    fn from(unnamed: NotNamed) -> LayerFault {
+        LayerFault::NotNamed(unnamed.0)
     }
 }
 
@@ -70,6 +82,7 @@ pub enum StoreFault {
 }
 
 impl StoreFault {
+    // As `HostFault::number`.
     pub fn number(self) -> u8
         ensures { result ≡ store_fault_number self }
     {

@@ -9,7 +9,7 @@ pub enum FrameError {
 }
 
 impl FrameError {
-    // The number of the error in the host.
+    // The number of the error in the host. No `From`: errors that are not the host's will have none.
     pub fn number(self) -> u16
         ensures { result ≡ error_number self }
     {

@@ -1,7 +1,9 @@
-ghost use Rattle.std.specs.Prelude.{◌≡◌};
+ghost use Rattle.std.specs.Prelude.{◌≡◌, Some, ok_or};
+ghost use Rattle.std.specs.Fmt.{styled_text};
 ghost use Rattle.vocabulary.specs.IoKind.{io_kind_at, io_number, io_name, io_row};
 
-use classes::class::{Class, ResourceExhaustionKind};
+use classes::class::{Class, NotNamed, ResourceExhaustionKind};
+use std::fmt;
 
 // The kind of an io error; `Other` stands for every kind that is not named.
 #[derive(Clone, Copy, Debug, PartialEq, Eq)]
@@ -24,7 +26,8 @@ pub enum IoKind {
     InvalidData,
 }
 
-// What an io error is by its kind alone: its class, and whether the two standard policies retry it.
+// What an io error is by its kind alone: its class, and whether the two standard policies retry it. One table gives all
+// three, as the project asks.
 #[derive(Clone, Copy)]
 pub struct IoRow {
     pub class: Option<Class>,
@@ -34,88 +37,55 @@ pub struct IoRow {
 
 const NO_MEMORY: Class = Class::ResourceExhaustion(ResourceExhaustionKind::AllocationFailure);
 
+// The rows without a class, by the policies that retry them.
+const NEVER: IoRow = IoRow {
+    class: None,
+    retry: false,
+    lenient: false,
+};
+
+const LENIENTLY: IoRow = IoRow {
+    class: None,
+    retry: false,
+    lenient: true,
+};
+
+const ALWAYS: IoRow = IoRow {
+    class: None,
+    retry: true,
+    lenient: true,
+};
+
 // One row for each io kind, in the order of their numbers.
 const IO_TABLE: [IoRow; 16] = [
-    IoRow {
-        class: None,
-        retry: false,
-        lenient: false,
-    },
+    NEVER,
     IoRow {
         class: Some(Class::NotFound),
-        retry: false,
-        lenient: false,
+        ..NEVER
     },
     IoRow {
         class: Some(Class::PermissionDenied),
-        retry: false,
-        lenient: false,
+        ..NEVER
     },
     IoRow {
         class: Some(Class::Unsupported),
-        retry: false,
-        lenient: false,
+        ..NEVER
     },
     IoRow {
         class: Some(NO_MEMORY),
-        retry: false,
-        lenient: true,
+        ..LENIENTLY
     },
-    IoRow {
-        class: None,
-        retry: true,
-        lenient: true,
-    },
-    IoRow {
-        class: None,
-        retry: true,
-        lenient: true,
-    },
-    IoRow {
-        class: None,
-        retry: false,
-        lenient: true,
-    },
-    IoRow {
-        class: None,
-        retry: false,
-        lenient: true,
-    },
-    IoRow {
-        class: None,
-        retry: false,
-        lenient: true,
-    },
-    IoRow {
-        class: None,
-        retry: false,
-        lenient: true,
-    },
-    IoRow {
-        class: None,
-        retry: false,
-        lenient: true,
-    },
-    IoRow {
-        class: None,
-        retry: false,
-        lenient: true,
-    },
-    IoRow {
-        class: None,
-        retry: false,
-        lenient: false,
-    },
-    IoRow {
-        class: None,
-        retry: false,
-        lenient: false,
-    },
-    IoRow {
-        class: None,
-        retry: false,
-        lenient: false,
-    },
+    ALWAYS,
+    ALWAYS,
+    LENIENTLY,
+    LENIENTLY,
+    LENIENTLY,
+    LENIENTLY,
+    LENIENTLY,
+    LENIENTLY,
+    NEVER,
+    NEVER,
+    NEVER,
 ];
 
 impl IoKind {
@@ -126,37 +96,14 @@ impl IoKind {
         IO_TABLE[self as usize]
     }
 
+    // No `From`: `u8::from(kind)` would not say which number it is.
     pub fn number(self) -> u8
         ensures { result ≡ io_number self }
     {
         self as u8
     }
 
-    // The io kind of a number, or none above 15.
-    pub fn from_number(number: u8) -> Option<IoKind>
-        ensures { result ≡ io_kind_at number }
-    {
-        match number {
-            0 => Some(IoKind::Other),
-            1 => Some(IoKind::NotFound),
-            2 => Some(IoKind::PermissionDenied),
-            3 => Some(IoKind::Unsupported),
-            4 => Some(IoKind::OutOfMemory),
-            5 => Some(IoKind::Interrupted),
-            6 => Some(IoKind::TimedOut),
-            7 => Some(IoKind::UnexpectedEof),
-            8 => Some(IoKind::BrokenPipe),
-            9 => Some(IoKind::AddrInUse),
-            10 => Some(IoKind::ConnectionAborted),
-            11 => Some(IoKind::ConnectionReset),
-            12 => Some(IoKind::ConnectionRefused),
-            13 => Some(IoKind::WouldBlock),
-            14 => Some(IoKind::AlreadyExists),
-            15 => Some(IoKind::InvalidData),
-            _ => None,
-        }
-    }
-
+    // As `Class::name`, for lent buffers.
     pub fn name(self) -> &'static str
         ensures { result.now ≡ io_name self }
     {
@@ -178,5 +125,44 @@ impl IoKind {
             IoKind::AlreadyExists => "AlreadyExists",
             IoKind::InvalidData => "InvalidData",
         }
+    }
+}
+
+// The io kind of a number; no io kind has one above 15.
+impl TryFrom<u8> for IoKind {
+    type Error = NotNamed;
+
+    ghost try_from_gives = { λ n r. r ≡ ok_or (io_kind_at n) (record { 0 = n }) };
+
+    fn try_from(number: u8) -> Result<IoKind, NotNamed> {
+        match number {
+            0 => Ok(IoKind::Other),
+            1 => Ok(IoKind::NotFound),
+            2 => Ok(IoKind::PermissionDenied),
+            3 => Ok(IoKind::Unsupported),
+            4 => Ok(IoKind::OutOfMemory),
+            5 => Ok(IoKind::Interrupted),
+            6 => Ok(IoKind::TimedOut),
+            7 => Ok(IoKind::UnexpectedEof),
+            8 => Ok(IoKind::BrokenPipe),
+            9 => Ok(IoKind::AddrInUse),
+            10 => Ok(IoKind::ConnectionAborted),
+            11 => Ok(IoKind::ConnectionReset),
+            12 => Ok(IoKind::ConnectionRefused),
+            13 => Ok(IoKind::WouldBlock),
+            14 => Ok(IoKind::AlreadyExists),
+            15 => Ok(IoKind::InvalidData),
+            _ => Err(NotNamed(number)),
+        }
+    }
+}
+
+impl fmt::Display for IoKind {
+    ghost output = { λ k. Some (io_name k) };
+
+    ghost styled_output = { λ k s. Some (styled_text s (io_name k)) };
+
+    fn fmt<W: fmt::Write>(&self, f: &mut fmt::Formatter<W>) -> fmt::Result {
+        f.pad(self.name())
     }
 }

@@ -1,8 +1,10 @@
-ghost use Rattle.std.specs.Prelude.{◌≡◌};
-ghost use Rattle.vocabulary.specs.Kind.{kind_at, kind_name, kind_number, is_marker, sourceless};
+ghost use Rattle.std.specs.Prelude.{◌≡◌, Some, ok_or};
+ghost use Rattle.std.specs.Fmt.{styled_text};
+ghost use Rattle.vocabulary.specs.Kind.{kind_at, kind_name, kind_number, is_marker, sourceless, unnamed};
 
 use crate::io_kind::IoKind;
-use classes::class::Class;
+use classes::class::{Class, NotNamed};
+use std::fmt;
 
 // What an error is: a plain error, a message with a class or none, a marker that only adds a class to the error that
 // it marks, a failed reservation of memory, or an io error.
@@ -16,6 +18,7 @@ pub enum Kind {
 }
 
 impl Kind {
+    // No `From`: a number alone does not give a message's class or an io kind back.
     pub fn number(self) -> u8
         ensures { result ≡ kind_number self }
     {
@@ -28,22 +31,7 @@ impl Kind {
         }
     }
 
-    // The kind of a number. `detail` is the rank of a message (255 for no class) or of a marker, or the io kind; it is
-    // not looked at for the other kinds.
-    pub fn from_numbers(number: u8, detail: u8) -> Option<Kind>
-        ensures { result ≡ kind_at number detail }
-    {
-        match number {
-            0 => Some(Kind::Plain),
-            1 if detail == 255 => Some(Kind::Message(None)),
-            1 => Some(Kind::Message(Some(Class::from_rank(detail)?))),
-            2 => Some(Kind::ClassificationMarker(Class::from_rank(detail)?)),
-            3 => Some(Kind::TryReserveError),
-            4 => Some(Kind::Io(IoKind::from_number(detail)?)),
-            _ => None,
-        }
-    }
-
+    // As `Class::name`, for lent buffers.
     pub fn name(self) -> &'static str
         ensures { result.now ≡ kind_name self }
     {
@@ -68,5 +56,35 @@ impl Kind {
         ensures { result ≡ sourceless self }
     {
         matches!(self, Kind::Message(_) | Kind::TryReserveError)
+    }
+}
+
+// The kind of a number, and of the detail beside it: the rank of a message (255 for no class) or of a marker, or the io
+// kind. The detail is not looked at for the other kinds.
+impl TryFrom<(u8, u8)> for Kind {
+    type Error = NotNamed;
+
+    ghost try_from_gives = { λ n r. r ≡ ok_or (kind_at n.0 n.1) (record { 0 = unnamed n.0 n.1 }) };
+
+    fn try_from((number, detail): (u8, u8)) -> Result<Kind, NotNamed> {
+        match number {
+            0 => Ok(Kind::Plain),
+            1 if detail == 255 => Ok(Kind::Message(None)),
+            1 => Ok(Kind::Message(Some(Class::try_from(detail)?))),
+            2 => Ok(Kind::ClassificationMarker(Class::try_from(detail)?)),
+            3 => Ok(Kind::TryReserveError),
+            4 => Ok(Kind::Io(IoKind::try_from(detail)?)),
+            _ => Err(NotNamed(number)),
+        }
+    }
+}
+
+impl fmt::Display for Kind {
+    ghost output = { λ k. Some (kind_name k) };
+
+    ghost styled_output = { λ k s. Some (styled_text s (kind_name k)) };
+
+    fn fmt<W: fmt::Write>(&self, f: &mut fmt::Formatter<W>) -> fmt::Result {
+        f.pad(self.name())
     }
 }

@@ -1,13 +1,15 @@
-use Rattle.std.proofs.Common.{◌≡◌, vec_items, ◌∙◌, arith}
-use Rattle.table_host.specs.TableLaws.{marks_more, marks_all}
+use Rattle.std.proofs.Common.{rules}
+use Rattle.table_host.specs.TableLaws.{pass_more, pass_ends}
 use Rattle.table_host.proofs.table.mark_live.Goals as goal
 
 pub loop-error-preserved : goal.loop-error-preserved
 loop-error-preserved c =
-    marks_more c.args.records.now c.args.size (vec_items c.loop-error.live) _ _ c.loop-error.error _ _ c.lives-record_lives.result
-    c.loop-error.invariant c.min-error-end.ensures c.loop-error-test.true c.deref.ensures.value c.lives-record_lives.ensures c.in_ok-push.ensures.items
+    let more = c.in-Some.ensures.goes.on (search rules) in
+    let steps = c.in-Some.ensures.steps in (
+      more.0,
+      more.1,
+      pass_more c.args.records.now c.args.size c.loop-error.invariant.2 steps.0.0 steps.0.1 steps.1 steps.2 c.deref.ensures.value c.lives-record_lives.ensures c.in_ok-push.ensures.items,
+    )
 
 pub returns : goal.returns
-returns c =
-    let last : c.loop-error.error ≡ c.min-error-end.result = let a = c.loop-error-test.false in let b = c.loop-error.auto.error-end in omega arith in
-    marks_all c.args.records.now c.args.size (vec_items c.loop-error.live) c.loop-error.error c.loop-error.invariant (last ∙ c.min-error-end.ensures)
+returns c = pass_ends c.args.records.now c.args.size c.loop-error.invariant.2 (λ l. (c.in-None.ensures.steps.0 l).0)
