@@ -1,5 +1,5 @@
 -- A report that the store holds.
-use Rattle.std.proofs.Common.{◌≡◌, ℕ, Bool, true, false, cond, Some, None, Ok, Err, Option, refl, ap, ◌∙◌, ap₂, arith}
+use Rattle.std.proofs.Common.{◌≡◌, ℕ, Bool, true, false, cond, Some, None, Ok, Err, Option, refl, ap, ◌∙◌, ap₂}
 use Rattle.std.proofs.lemmas.Bool.{and_parts}
 use Rattle.vocabulary.specs.declared.fault.StoreFault.TheVariants.{NotHeld}
 use Rattle.model.specs.Host.{Errors}
@@ -7,12 +7,12 @@ use Rattle.trees.specs.Trees.{Tree}
 use Rattle.frames.specs.declared.store.Frames.{Frames}
 use Rattle.frames.specs.Of.{reports_of}
 use Rattle.ledger.specs.Causes.{held, list_cause}
-use Rattle.traversal.proofs.Reports.{there}
+use Rattle.trees.proofs.Options.{there}
 use Rattle.store.specs.Calls.{held_root, report_held}
 use Rattle.store.specs.Chains.{flatten_cause, list_cause_of}
 use Rattle.store.specs.Store.{ledger_of}
 use Rattle.store.specs.declared.store.Store.{Store}
-use Rattle.store.specs.declared.token.Exn.{Exn}
+use Rattle.store.specs.Token.{Exn}
 
 -- the report's tree, where its root was told
 pub record Told (s : Store) (x : Exn) (r : ℕ) : Type 0 where
@@ -28,7 +28,7 @@ told s x r q = go (report_held s x) refl q
     go true v q =
         let t = there ((ledger_of s).reports x.root) (and_parts _ _ v).1 in
         record { tree = t.0; is = t.1; holds = v; root = let y : r ≡ x.root = cc in y }
-    go false v q = absurd (let z : ◌≡◌ {A = ℕ} 0 1 = cc in omega arith)
+    go false v q = absurd (cc)
 
 -- the same of the frames and the root that were handed on
 pub told_there : (s : Store) (x : Exn) (r : ℕ) (fs : Frames) (t : Tree) → fs ≡ s.frames → r ≡ x.root → (ledger_of s).reports x.root ≡ Some t → reports_of fs r ≡ Some t

@@ -1,24 +1,14 @@
 -- The errors that are kept.
-use Rattle.std.proofs.Common.{◌≡◌, ℕ, ◌+◌, ◌-◌, ◌<◌, Bool, true, false, cond, List, [], ◌∷◌, ◌++◌, map, length, get_or, take, drop, set, replicate, sym, refl, ap, ◌∙◌, ap₂, arith}
+use Rattle.std.proofs.Common.{◌≡◌, ℕ, ◌+◌, ◌<◌, true, false, not, List, [], ◌∷◌, ◌++◌, map, length, get_or, take, drop, set, sym, ap, ◌∙◌, ap₂, arith}
 use Rattle.std.proofs.lemmas.List.{append-nil, length-append, length-set, map-append, drop_more, drop-set-lt, take_more, take_more_set}
+use Rattle.std.proofs.lemmas.List.Elements.{filter-append}
 use Rattle.std.proofs.lemmas.Bool.{cond-true, cond-false}
 use Rattle.vocabulary.specs.declared.frame_error.FrameError.{FrameError}
 use Rattle.model.specs.Host.{Errors}
 use Rattle.nodes.specs.declared.node.Node.{Node}
 use Rattle.readings.specs.Readings.{marker_in}
-use Rattle.chains.specs.Errors.{error_node, errors_in, shown, unmarked, zero_node}
+use Rattle.chains.specs.Errors.{error_node, errors_in, unmarked, zero_node}
 use Rattle.chains.specs.Kept.{Kept}
-
-unmarked_append : (h : Errors) (es ds : List FrameError) → unmarked h (es ++ ds) ≡ unmarked h es ++ unmarked h ds
-unmarked_append h [] ds = refl
-unmarked_append h (e ∷ es) ds = go (marker_in h e) (unmarked_append h es ds)
-  where
-    go : (b : Bool) → unmarked h (es ++ ds) ≡ unmarked h es ++ unmarked h ds → cond b (unmarked h (es ++ ds)) (e ∷ unmarked h (es ++ ds)) ≡ cond b (unmarked h es) (e ∷ unmarked h es) ++ unmarked h ds
-    go true q = q
-    go false q = ap (λ (xs : List FrameError). e ∷ xs) q
-
-pub kept_none : (h : Errors) (list : List Node) → Kept h list list 0 0
-kept_none h list = record { front = refl; count = refl; few = omega arith; behind = refl; long = refl }
 
 module _ (h : Errors) (before now : List Node) (i found : ℕ) (k : Kept h before now i found) (lt : i < length before) where
   -- the node at the turn's place is as it was
@@ -37,12 +27,12 @@ module _ (h : Errors) (before now : List Node) (i found : ℕ) (k : Kept h befor
   errors_more : unmarked h (errors_in (take (i + 1) before)) ≡ unmarked h (errors_in (take i before)) ++ unmarked h ((get_or before i zero_node).error ∷ [])
   errors_more = ap (λ (xs : List Node). unmarked h (errors_in xs)) (take_more before i zero_node lt)
       ∙ ap (unmarked h) (map-append (λ (x : Node). x.error) (take i before) (get_or before i zero_node ∷ []))
-      ∙ unmarked_append h (errors_in (take i before)) ((get_or before i zero_node).error ∷ [])
+      ∙ filter-append (λ (e : FrameError). not (marker_in h e)) (errors_in (take i before)) ((get_or before i zero_node).error ∷ [])
 
   pub kept_marker : marker_in h (get_or now i zero_node).error ≡ true → Kept h before now (i + 1) found
   kept_marker m =
       let e : unmarked h (errors_in (take (i + 1) before)) ≡ unmarked h (errors_in (take i before)) =
-      errors_more ∙ ap (λ (xs : List FrameError). unmarked h (errors_in (take i before)) ++ xs) (cond-true (marker_in h (get_or before i zero_node).error) _ _ (sym (ap (λ (x : Node). marker_in h x.error) (here zero_node)) ∙ m)) ∙ append-nil (unmarked h (errors_in (take i before))) in
+      errors_more ∙ ap (λ (xs : List FrameError). unmarked h (errors_in (take i before)) ++ xs) (cond-false (not (marker_in h (get_or before i zero_node).error)) _ _ (ap not (sym (ap (λ (x : Node). marker_in h x.error) (here zero_node)) ∙ m))) ∙ append-nil (unmarked h (errors_in (take i before))) in
       let f = k.few in
       record {
         front = k.front ∙ ap (map error_node) (sym e);
@@ -57,7 +47,7 @@ module _ (h : Errors) (before now : List Node) (i found : ℕ) (k : Kept h befor
       let d = (get_or before i zero_node).error in
       let same : (get_or now i zero_node).error ≡ (get_or before i zero_node).error = ap (λ (x : Node). x.error) (here zero_node) in
       let e : unmarked h (errors_in (take (i + 1) before)) ≡ unmarked h (errors_in (take i before)) ++ ((get_or before i zero_node).error ∷ []) =
-      errors_more ∙ ap (λ (xs : List FrameError). unmarked h (errors_in (take i before)) ++ xs) (cond-false (marker_in h (get_or before i zero_node).error) _ _ (sym (ap (marker_in h) same) ∙ m)) in
+      errors_more ∙ ap (λ (xs : List FrameError). unmarked h (errors_in (take i before)) ++ xs) (cond-true (not (marker_in h (get_or before i zero_node).error)) _ _ (ap not (sym (ap (marker_in h) same) ∙ m))) in
       let f = k.few in
       let l = k.long in
       let c = k.count in
@@ -71,9 +61,3 @@ module _ (h : Errors) (before now : List Node) (i found : ℕ) (k : Kept h befor
         behind = drop-set-lt (i + 1) now found x (omega arith) ∙ next_behind;
         long = length-set now found x ∙ l;
       }
-
-pub kept_all : (h : Errors) (before now after : List Node) (n found : ℕ) → Kept h before now n found → after ≡ take found now ++ (replicate (n - found) zero_node ++ drop n now)
-    → after ≡ shown (unmarked h (errors_in (take n before))) n before
-kept_all h before now after n found k e =
-    e ∙ ap₂ (λ (xs ys : List Node). xs ++ (replicate (n - found) zero_node ++ ys)) k.front k.behind
-    ∙ ap (λ (m : ℕ). map error_node (unmarked h (errors_in (take n before))) ++ (replicate (n - m) zero_node ++ drop n before)) k.count

@@ -1,5 +1,6 @@
 -- The errors of nodes that are no markers, put into a list.
-use Rattle.std.specs.Prelude.{ℕ, ◌-◌, false, cond, List, [], ◌∷◌, ◌++◌, map, length, drop, replicate, None}
+use Rattle.std.specs.Prelude.{ℕ, ◌-◌, false, not, List, ◌++◌, map, length, drop, replicate, None}
+use Rattle.std.specs.List.{filter}
 use Rattle.vocabulary.specs.declared.frame_error.FrameError.{FrameError}
 use Rattle.vocabulary.specs.declared.frame_error.FrameError.TheVariants.{Host}
 use Rattle.model.specs.Host.{Errors}
@@ -9,8 +10,7 @@ use Rattle.readings.specs.Readings.{marker_in}
 
 -- the errors that are no markers
 abbrev pub unmarked : Errors → List FrameError → List FrameError
-unmarked h [] = []
-unmarked h (e ∷ es) = cond (marker_in h e) (unmarked h es) (e ∷ unmarked h es)
+unmarked h es = filter (λ (e : FrameError). not (marker_in h e)) es
 
 -- a node that has nothing but an error
 abbrev pub error_node : FrameError → Node
@@ -19,6 +19,10 @@ error_node e = record { error = e; place = 0; native = false; parent = None; not
 -- a node of zeros
 abbrev pub zero_node : Node
 zero_node = error_node (Host 0)
+
+-- errors at the front of so many nodes, zeros behind them
+abbrev pub shown_part : List FrameError → ℕ → List Node
+shown_part es n = map error_node es ++ replicate (n - length es) zero_node
 
 -- errors at the front of a list, zeros behind them up to `n` nodes, and the list kept behind those
 abbrev pub shown : List FrameError → ℕ → List Node → List Node

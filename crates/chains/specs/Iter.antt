@@ -12,7 +12,7 @@ use Rattle.store.specs.Chains.{flatten_cause, nodes_in}
 use Rattle.store.specs.Store.{ledger_of}
 use Rattle.store.specs.declared.chain.ChainedError.{ChainedError}
 use Rattle.store.specs.declared.store.Store.{Store}
-use Rattle.store.specs.declared.token.Exn.{Exn}
+use Rattle.store.specs.Token.{Exn}
 use Rattle.chains.specs.Errors.{shown, unmarked}
 
 -- the errors of a tree that are no markers stand in the list, breadth-first, and these are so many

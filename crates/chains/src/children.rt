@@ -1,11 +1,12 @@
 // The children of one node of a list.
-ghost use Rattle.std.specs.Prelude.{◌≡◌, [], ◌∷◌, Some, None};
-ghost use Rattle.nodes.specs.Breadth.{is_parent};
+ghost use Rattle.std.specs.Prelude.{◌≡◌};
+ghost use Rattle.std.specs.Iterator.{YieldsFirst, item_count};
 ghost use Rattle.chains.specs.Children.{children_after};
 
 use nodes::node::Node;
+use std::marker::Model;
 
-// Steps through the children of a node, in the order of the list.
+// Steps through the children of a node, in the order of the list. A clause sees the indices that are still to come.
 #[derive(Drop)]
 pub struct Children<'a> {
     nodes: &'a [Node],
@@ -14,18 +15,20 @@ pub struct Children<'a> {
     at: usize,
 }
 
-fn is_child(node: Node, parent: usize) -> bool
-    ensures { result ≡ is_parent parent node.parent }
-{
-    match node.parent {
-        Some(index) => index == parent,
-        None => false,
-    }
+impl<'a> Model for Children<'a> {
+    ghost use Rattle.std.specs.Prelude.{◌≤◌, ℕ, List, length};
+    ghost use Rattle.chains.specs.Children.{children_after};
+
+    ghost Value = { List ℕ };
+
+    ghost view = { λ c. children_after c.nodes.now c.parent c.at };
+
+    ghost invariant = { λ c. c.at ≤ length c.nodes.now };
 }
 
 impl<'a> Children<'a> {
     pub fn of(nodes: &'a [Node], parent: usize) -> Children<'a>
-        ensures { (result.nodes.now ≡ nodes.now) × ((result.parent ≡ parent) × (result.at ≡ 0)) }
+        ensures { result ≡ children_after nodes.now parent 0 }
     {
         Children {
             nodes,
@@ -33,22 +36,25 @@ impl<'a> Children<'a> {
             at: 0,
         }
     }
+}
 
-    // The index of the next child, or none where all were given.
-    pub fn next_child(&mut self) -> Option<usize>
-        ensures same { (self.new.nodes.now ≡ self.old.nodes.now) × (self.new.parent ≡ self.old.parent) }
-        ensures next { elim result [
-          | Some i ↦ children_after self.old.nodes.now self.old.parent self.old.at ≡ i ∷ children_after self.old.nodes.now self.old.parent self.new.at
-          | None ↦ children_after self.old.nodes.now self.old.parent self.old.at ≡ []
-        ] }
-    {
-        while self.at < self.nodes.len() {
-            let i = self.at;
-            self.at += 1;
-            if is_child(self.nodes[i], self.parent) {
-                return Some(i);
-            }
-        }
-        None
+impl<'a> Iterator for Children<'a> {
+    // the index of a child
+    type Item = usize;
+
+    ghost next_gives = { YieldsFirst (λ rest. rest) };
+
+    ghost remaining = { item_count (λ rest. rest) };
+
+    fn next(&mut self) -> Option<usize> {
+        let parent = Some(self.parent);
+        let from = self.at;
+        let rest = &self.nodes[from..];
+        // so that a call after the last child looks at no node again
+        self.at = self.nodes.len();
+        let passed = rest.iter().position(|node| node.parent == parent)?;
+        let child = from + passed;
+        self.at = child + 1;
+        Some(child)
     }
 }

@@ -1,7 +1,7 @@
 // The errors of nodes that are no markers.
-ghost use Rattle.std.specs.Prelude.{◌≡◌, ◌-◌, ◌≤◌, ◌++◌, length, take, drop, replicate};
+ghost use Rattle.std.specs.Prelude.{◌≡◌, length};
 ghost use Rattle.readings.specs.Readings.{marker_in};
-ghost use Rattle.chains.specs.Errors.{error_node, errors_in, shown, unmarked, zero_node};
+ghost use Rattle.chains.specs.Errors.{error_node, errors_in, shown_part, unmarked};
 
 use host::host::Host;
 use nodes::node::{Node, Note};
@@ -11,13 +11,10 @@ use vocabulary::frame_error::FrameError;
 fn is_marker<H: Host>(host: &H, error: FrameError) -> bool
     ensures { result ≡ marker_in (H.Host.errors host.now) error }
 {
-    match host.kind(error.number()) {
-        Ok(kind) => kind.is_marker(),
-        Err(_) => false,
-    }
+    host.kind(error.number()).is_ok_and(|kind| kind.is_marker())
 }
 
-// A node that has nothing but an error.
+// A node that has nothing but an error. A constructor of `Node` would be no plainer: no other place makes such nodes.
 fn error_node(error: FrameError) -> Node
     ensures { result ≡ error_node error }
 {
@@ -30,32 +27,21 @@ fn error_node(error: FrameError) -> Node
     }
 }
 
-// Zeroes the nodes from `from` on up to `to`.
-fn clear_nodes(list: &mut [Node], from: usize, to: usize)
-    requires low { from ≤ to }
-    requires high { to ≤ length list.old }
-    ensures { list.new ≡ take from list.old ++ (replicate (to - from) zero_node ++ drop to list.old) }
-{
-    for i in from..to {
-        list[i] = error_node(FrameError::Host(0));
-    }
-}
-
-// Puts the errors of the first `n` nodes that are no markers at the front of the list, zeroes the other nodes up to `n`,
-// and answers how many errors there are.
-pub fn keep_errors<H: Host>(host: &H, list: &mut [Node], n: usize) -> usize
-    requires { n ≤ length list.old }
-    ensures count { result ≡ length (unmarked (H.Host.errors host.now) (errors_in (take n list.old))) }
-    ensures list { list.new ≡ shown (unmarked (H.Host.errors host.now) (errors_in (take n list.old))) n list.old }
+// Puts the errors of the nodes that are no markers at the front of the list, zeroes the nodes behind them, and answers how
+// many errors there are.
+pub fn keep_errors<H: Host>(host: &H, list: &mut [Node]) -> usize
+    ensures count { result ≡ length (unmarked (H.Host.errors host.now) (errors_in list.old)) }
+    ensures list { list.new ≡ shown_part (unmarked (H.Host.errors host.now) (errors_in list.old)) (length list.old) }
 {
     let mut found = 0;
-    for i in 0..n {
+    // by index: an iterator would hold the list, which is written further to the front
+    for i in 0..list.len() {
         let error = list[i].error;
         if !is_marker(host, error) {
             list[found] = error_node(error);
             found += 1;
         }
     }
-    clear_nodes(list, found, n);
+    list[found..].fill(error_node(FrameError::Host(0)));
     found
 }

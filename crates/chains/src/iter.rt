@@ -1,9 +1,8 @@
-// The errors of reports and chains, breadth-first.
-ghost use Rattle.std.specs.Prelude.{◌≡◌, ◌≤◌, ◌++◌, length, take, drop};
+// The errors of reports and chains, breadth-first. Host and list are lent to each call, as to the store's.
 ghost use Rattle.chains.specs.Iter.{ChainErrors, ReportErrors};
 
 use crate::errors::keep_errors;
-use checks::check::first_bad;
+use checks::check::check_flattening;
 use host::host::Host;
 use nodes::node::Node;
 use store::chain::ChainedError;
@@ -24,16 +23,7 @@ pub fn iter_errors<H: Host>(
 {
     let root = store.root_of(report)?;
     let nodes = flatten_report(host, store.frames(), root, list)?;
-    Ok(keep_errors(host, list, nodes))
-}
-
-// Copies the first `n` nodes of a list into another.
-fn copy_nodes(from: &[Node], into: &mut [Node], n: usize)
-    requires there { n ≤ length from.now }
-    requires room { n ≤ length into.old }
-    ensures { into.new ≡ take n from.now ++ drop n into.old }
-{
-    into[0..n].copy_from_slice(&from[0..n]);
+    Ok(keep_errors(host, &mut list[..nodes]))
 }
 
 // The same of a chain, whose nodes stand in `nodes`.
@@ -45,13 +35,13 @@ pub fn iter_chain_errors<H: Host>(
 ) -> Result<usize, StoreFault>
     ensures { ChainErrors chain.now (H.Host.errors host.now) nodes.now list.old list.new result }
 {
-    let n = chain.nodes().min(nodes.len());
-    if let Some(i) = first_bad(host, &nodes[0..n]) {
-        return Err(StoreFault::NotFlattening(i));
-    }
+    let front = chain.front(nodes);
+    check_flattening(host, front)?;
+    let n = front.len();
     if list.len() < n {
         return Err(StoreFault::ListTooShort(n));
     }
-    copy_nodes(nodes, list, n);
-    Ok(keep_errors(host, list, n))
+    let part = &mut list[..n];
+    part.copy_from_slice(front);
+    Ok(keep_errors(host, part))
 }

@@ -1,105 +1,106 @@
-ghost use Rattle.std.specs.Prelude.{◌≡◌, ℕ, ◌<◌, ◌≤◌, length, Some, Decides};
+ghost use Rattle.std.specs.Prelude.{◌≡◌, ℕ, ◌+◌, ◌<◌, ◌≤◌, length, Some, Decides};
 ghost use Rattle.nodes.specs.Begins.{Checked};
 ghost use Rattle.nodes.specs.Check.{node_at, error_source, explicit_count, NextSource, Clear, Root, SourceFits, FrameFits, NodeFits};
 ghost use Rattle.nodes.specs.Nodes.{LiveError};
+ghost use Rattle.checks.specs.Flattening.{CheckResult};
 
 use host::host::Host;
+use host::sources::source_of;
 use nodes::node::{Node, Note};
+use vocabulary::fault::StoreFault;
 use vocabulary::frame_error::FrameError;
 
-// The source of a live error, if it has one; none for an error that is not live.
-fn source_of<H: Host>(host: &H, error: FrameError) -> Option<u16>
-    ensures { result ≡ error_source (H.Host.errors host.now) error }
-{
-    let FrameError::Host(error) = error;
-    match host.source(error) {
-        Ok(source) => source,
-        Err(_) => None,
-    }
+// A list of nodes, and the host that their errors are of.
+#[derive(Drop)]
+struct Check<'a, H> {
+    host: &'a H,
+    nodes: &'a [Node],
 }
 
-// Whether an error is live.
-fn is_live<H: Host>(host: &H, error: FrameError) -> bool
-    ensures { Decides result (LiveError (H.Host.errors host.now) error) }
-{
-    let FrameError::Host(error) = error;
-    host.kind(error).is_ok()
+// What the nodes that passed leave to the next.
+#[derive(Clone, Copy)]
+struct Progress {
+    // the parent of the latest node
+    last: usize,
+    // the first node whose source is not listed
+    owing: usize,
+}
+
+impl<'a, H: Host> Check<'a, H> {
+    // The source of an error, if it is live and has one.
+    fn source(&self, error: FrameError) -> Option<u16>
+        ensures { result ≡ error_source (H.Host.errors self.now.host.now) error }
+    {
+        source_of(self.host, error.number())
+    }
+
+    // Whether an error is live.
+    fn is_live(&self, error: FrameError) -> bool
+        ensures { Decides result (LiveError (H.Host.errors self.now.host.now) error) }
+    {
+        self.host.kind(error.number()).is_ok()
+    }
+
+    // Whether a node can be the first.
+    fn is_root(&self, node: Node) -> bool
+        ensures { Decides result (Root (H.Host.errors self.now.host.now) node) }
+    {
+        is_clear(node) && self.is_live(node.error) && !node.native && node.parent.is_none()
+    }
+
+    // The first node from `from` on that has a source, or `to` where none before it has.
+    fn next_owing(&self, from: usize, to: usize) -> usize
+        requires { (from ≤ to) × (to ≤ length self.now.nodes.now) }
+        ensures { NextSource (H.Host.errors self.now.host.now) self.now.nodes.now from to result }
+    {
+        self.nodes[from..to]
+            .iter()
+            .position(|node| self.source(node.error).is_some())
+            .map_or(to, |k| from + k)
+    }
+
+    // Whether the node at `i` is the source that the node `owing` owes.
+    fn source_fits(&self, i: usize, owing: usize) -> bool
+        requires { i < length self.now.nodes.now }
+        ensures { Decides result (SourceFits (H.Host.errors self.now.host.now) self.now.nodes.now i owing (node_at self.now.nodes.now i)) }
+    {
+        let node = self.nodes[i];
+        node.native
+            && node.parent == Some(owing)
+            && owing < i
+            && self.source(self.nodes[owing].error).map(FrameError::Host) == Some(node.error)
+            && node.place == self.nodes[owing].place
+    }
+
+    // Whether the node at `i` is a frame that can come next.
+    fn frame_fits(&self, i: usize, at: Progress) -> bool
+        requires { (i < length self.now.nodes.now) × (at.owing ≤ i) }
+        ensures { Decides result (FrameFits self.now.nodes.now at.last at.owing (node_at self.now.nodes.now i)) }
+    {
+        let node = self.nodes[i];
+        !node.native
+            && node.parent.is_some_and(|parent| {
+                at.last <= parent && parent < at.owing && !self.nodes[parent].native
+            })
+    }
+
+    // Whether the node at `i` fits those before it.
+    fn node_fits(&self, i: usize, at: Progress) -> bool
+        requires { (i < length self.now.nodes.now) × (at.owing ≤ i) }
+        ensures { Decides result (NodeFits (H.Host.errors self.now.host.now) self.now.nodes.now i at.last at.owing) }
+    {
+        let node = self.nodes[i];
+        is_clear(node)
+            && self.is_live(node.error)
+            && (self.source_fits(i, at.owing) || self.frame_fits(i, at))
+    }
 }
 
 // Whether a node has no note.
-fn is_clear(node: &Node) -> bool
-    ensures { Decides result (Clear node.now) }
+fn is_clear(node: Node) -> bool
+    ensures { Decides result (Clear node) }
 {
-    match node.note {
-        Note::Clear => true,
-        _ => false,
-    }
-}
-
-// Whether a node can be the first.
-fn is_root<H: Host>(host: &H, node: &Node) -> bool
-    ensures { Decides result (Root (H.Host.errors host.now) node.now) }
-{
-    is_clear(node) && is_live(host, node.error) && !node.native && node.parent.is_none()
-}
-
-// The first node from `from` on that has a source, or `to` where none before it has.
-fn next_owing<H: Host>(host: &H, nodes: &[Node], from: usize, to: usize) -> usize
-    requires { (from ≤ to) × (to ≤ length nodes.now) }
-    ensures { NextSource (H.Host.errors host.now) nodes.now from to result }
-{
-    for i in from..to {
-        if source_of(host, nodes[i].error).is_some() {
-            return i;
-        }
-    }
-    to
-}
-
-// Whether an error is the one that was told as a source.
-fn is_source(error: FrameError, source: Option<u16>) -> bool
-    ensures { Decides result ((d : ℕ) × (source ≡ Some d) × (error ≡ FrameError.Host d)) }
-{
-    let FrameError::Host(error) = error;
-    source == Some(error)
-}
-
-// Whether the node at `i` is the source that the node `owing` owes.
-fn source_fits<H: Host>(host: &H, nodes: &[Node], i: usize, owing: usize) -> bool
-    requires { i < length nodes.now }
-    ensures { Decides result (SourceFits (H.Host.errors host.now) nodes.now i owing (node_at nodes.now i)) }
-{
-    let node = &nodes[i];
-    node.native
-        && node.parent == Some(owing)
-        && owing < i
-        && is_source(node.error, source_of(host, nodes[owing].error))
-        && node.place == nodes[owing].place
-}
-
-// Whether the node at `i` is a frame that can come after one with the parent `last`.
-fn frame_fits(nodes: &[Node], i: usize, last: usize, owing: usize) -> bool
-    requires { (i < length nodes.now) × (owing ≤ i) }
-    ensures { Decides result (FrameFits nodes.now last owing (node_at nodes.now i)) }
-{
-    let node = &nodes[i];
-    match node.parent {
-        Some(parent) => {
-            !node.native && last <= parent && parent < owing && !nodes[parent].native
-        }
-        None => false,
-    }
-}
-
-// Whether the node at `i` fits those before it.
-fn node_fits<H: Host>(host: &H, nodes: &[Node], i: usize, last: usize, owing: usize) -> bool
-    requires { (i < length nodes.now) × (owing ≤ i) }
-    ensures { Decides result (NodeFits (H.Host.errors host.now) nodes.now i last owing) }
-{
-    let node = &nodes[i];
-    is_clear(node)
-        && is_live(host, node.error)
-        && (source_fits(host, nodes, i, owing) || frame_fits(nodes, i, last, owing))
+    node.note == Note::Clear
 }
 
 // The first index at which a list is no flattening of a report, or none for a flattening. The nodes before it begin a
@@ -107,37 +108,37 @@ fn node_fits<H: Host>(host: &H, nodes: &[Node], i: usize, last: usize, owing: us
 pub fn first_bad<H: Host>(host: &H, nodes: &[Node]) -> Option<usize>
     ensures { Checked (H.Host.errors host.now) nodes.now result }
 {
-    if nodes.is_empty() || !is_root(host, &nodes[0]) {
+    let check = Check { host, nodes };
+    if nodes.is_empty() || !check.is_root(nodes[0]) {
         return Some(0);
     }
-    // the parent of the latest node, and the first node whose source is not listed
-    let mut last = 0;
-    let mut owing = next_owing(host, nodes, 0, 1);
-    for i in 1..nodes.len() {
-        if !node_fits(host, nodes, i, last, owing) {
+    let mut at = Progress {
+        last: 0,
+        owing: check.next_owing(0, 1),
+    };
+    for (i, node) in nodes.iter().enumerate().skip(1) {
+        if !check.node_fits(i, at) {
             return Some(i);
         }
-        let node = &nodes[i];
-        let from = if node.native { owing + 1 } else { owing };
-        last = node.parent.unwrap_or(0);
-        owing = next_owing(host, nodes, from, i + 1);
+        let from = if node.native { at.owing + 1 } else { at.owing };
+        at = Progress {
+            last: node.parent.unwrap_or(0),
+            owing: check.next_owing(from, i + 1),
+        };
     }
-    if owing < nodes.len() {
-        Some(nodes.len())
-    } else {
-        None
-    }
+    (at.owing < nodes.len()).then_some(nodes.len())
+}
+
+// The same as a result: the index is the fault of a list that is no flattening.
+pub fn check_flattening<H: Host>(host: &H, nodes: &[Node]) -> Result<(), StoreFault>
+    ensures { CheckResult (H.Host.errors host.now) nodes.now result }
+{
+    first_bad(host, nodes).map_or(Ok(()), |i| Err(StoreFault::NotFlattening(i)))
 }
 
 // How many nodes are frames, and no sources.
 pub fn explicit_nodes(nodes: &[Node]) -> usize
     ensures { result ≡ explicit_count nodes.now }
 {
-    let mut count = 0;
-    for node in nodes {
-        if !node.native {
-            count += 1;
-        }
-    }
-    count
+    nodes.iter().filter(|node| !node.native).count()
 }

@@ -1,1 +1,2 @@
 pub mod Placed
+pub mod Asked

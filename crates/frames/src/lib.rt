@@ -1,5 +1,5 @@
 // The store by plain numbers: 1,024 frames that hold reports, alone or in rows.
 #![tactic(auto)]
 
-mod links;
+mod change;
 pub mod store;

@@ -1,22 +1,22 @@
 -- What each call leaves, from what is known of the frames and its arguments.
-use Rattle.std.proofs.Common.{◌≡◌, ℕ, ◌+◌, ◌-◌, ◌<◌, ◌≤◌, true, cond, eqb, List, get_or, set, is_some, Some, None, Option, sym, refl, ap, ◌∙◌, ap₂, ⊎_elim, arith}
+use Rattle.std.specs.Option.{option_or}
+use Rattle.std.proofs.Common.{◌≡◌, ℕ, ◌+◌, ◌-◌, ◌<◌, ◌≤◌, true, cond, eqb, List, get_or, set, is_some, Some, None, Option, sym, refl, ap, ◌∙◌, ap₂, arith}
 use mathlib.Core.Bool.{Bool-set}
 use mathlib.Core.Logic.{∥∥₁_elim, ∥∥₁_map}
-use mathlib.Core.HLevel.{Π_prop}
 use native.Mathlib.Bridge.{le_prop}
 use native.Mathlib.Nat.{ℕ_set}
 use Rattle.std.specs.Map.{update}
 use Rattle.std.proofs.lemmas.List.{get_or_past}
 use Rattle.std.proofs.lemmas.Map.{update_here, update_apart}
-use Rattle.std.proofs.lemmas.Bool.{cases_eq, eq-eqb, ne_eqb, cond-true, cond-false}
+use Rattle.std.proofs.lemmas.Bool.Decides.{nat_tests}
 use Rattle.trees.specs.Trees.{Tree, Listing, first_root}
 use Rattle.trees.specs.Numbered.{Numbered, tree_of}
 use Rattle.trees.proofs.Sets.{forest_set, report_set, row_set, option_set}
 use Rattle.layout.specs.declared.frame.Role.TheVariants.{Linked, Row}
 use Rattle.layout.specs.declared.frame.Frame.{Frame}
-use Rattle.layout.specs.Layout.{blank, Layout, Sound, with_role, Within, either, last_root, row_size}
+use Rattle.layout.specs.Layout.{blank, Layout, Sound, with_role, Within, last_root, row_size}
 use Rattle.layout.specs.Reports.{reports, rows, Means}
-use Rattle.layout.specs.Calls.{alone, under, joined, first_of, rest_of, opened, Fresh, Drained, Begun}
+use Rattle.layout.specs.Calls.{alone, under, joined, first_of, rest_of, opened, Drained, Begun}
 use Rattle.trees.specs.Counting.{unused, in_report}
 use Rattle.trees.proofs.Numbered.{counted}
 use Rattle.layout.specs.Placed.{Placed}
@@ -34,32 +34,13 @@ use Rattle.layout.proofs.Means.{turned}
 use Rattle.layout.proofs.Rows.{report_below, report_frame, report_is, rowed_layout, rowed_means}
 
 pub means_prop : (fs : List Frame) (g : ℕ → Option Tree) (h : ℕ → Option Listing) → IsProp (Means fs g h)
-means_prop fs g h x y = λ i. record {
-  reports = Π_prop (λ j. report_set (reports fs j) (g j)) x.reports y.reports i;
-  rows = Π_prop (λ j. row_set (rows fs j) (h j)) x.rows y.rows i;
-}
-
-pub fresh_prop : (fs : List Frame) (n : ℕ) → IsProp (Fresh fs n)
-fresh_prop fs n x y = λ i. record {
-  report = report_set _ _ x.report y.report i;
-  row = Π_prop (λ h. Bool-set _ _) x.row y.row i;
-}
+means_prop fs g h = hlevel (report_set, row_set)
 
 pub drained_prop : (fs gs : List Frame) (x : ℕ) (o : Option ℕ) → IsProp (Drained fs gs x o)
-drained_prop fs gs x o a b = λ i. record {
-  children = forest_set _ _ a.children b.children i;
-  first = option_set ℕ_set _ _ a.first b.first i;
-  fresh = Π_prop (λ n. Π_prop (λ q. fresh_prop fs n)) a.fresh b.fresh i;
-  means = means_prop _ _ _ a.means b.means i;
-}
+drained_prop fs gs x o = hlevel (means_prop, report_set, forest_set, option_set, ℕ_set, Bool-set)
 
 pub begun_prop : (fs gs : List Frame) (e : FrameError) (p n : ℕ) → IsProp (Begun fs gs e p n)
-begun_prop fs gs e p n a b = λ i. record {
-  room = le_prop a.room b.room i;
-  below = le_prop a.below b.below i;
-  fresh = fresh_prop fs n a.fresh b.fresh i;
-  means = means_prop _ _ _ a.means b.means i;
-}
+begun_prop fs gs e p n = hlevel (means_prop, report_set, le_prop, Bool-set)
 
 pub within_prop : (o : Option ℕ) → IsProp (Within o)
 within_prop None = λ x y. refl
@@ -155,30 +136,30 @@ module _ {fs : List Frame} {head : Option ℕ} {count : ℕ} (sound : Sound fs h
       ))
 
   -- the free frames
-  pub free-count : count ≡ unused (reports fs) (rows fs)
-  free-count = ∥∥₁_elim sound (ℕ_set _ _) (λ l. count_is l.laid)
+  pub free_count : count ≡ unused (reports fs) (rows fs)
+  free_count = ∥∥₁_elim sound (ℕ_set _ _) (λ l. count_is l.laid)
 
   pub full : head ≡ None → unused (reports fs) (rows fs) ≡ 0
-  full h = sym free-count ∙ ∥∥₁_elim sound (ℕ_set _ _) (λ l. none_free l.free l.laid h)
+  full h = sym free_count ∙ ∥∥₁_elim sound (ℕ_set _ _) (λ l. none_free l.free l.laid h)
 
-  module _ (i : ℕ) (is : head ≡ Some i) (e : FrameError) (p : ℕ) where
+  module _ (i : ℕ) (is : head ≡ Some i) where
     next : (l : Layout fs head count) → First fs head count l.live i
     next l = first_free l.free i l.laid is
 
-    pub free-below : i < 1024
-    free-below = ∥∥₁_elim sound le_prop (λ l. freeing.free-below (next l).laid e p)
+    pub free_below : i < 1024
+    free_below = ∥∥₁_elim sound le_prop (λ l. freeing.free_below (next l).laid)
 
     pub within_free : Within (get_or fs i blank).last
-    within_free = ∥∥₁_elim sound (within_prop _) (λ l. freeing.within_free (next l).laid e p)
+    within_free = ∥∥₁_elim sound (within_prop _) (λ l. freeing.within_free (next l).laid)
 
     pub some_free : 1 ≤ count
-    some_free = ∥∥₁_elim sound le_prop (λ l. freeing.some_free (next l).laid e p)
+    some_free = ∥∥₁_elim sound le_prop (λ l. freeing.some_free (next l).laid)
 
-    pub begin_sound : (gs : List Frame) (h : Option ℕ) → gs ≡ begun_frames fs i e p → h ≡ either (get_or fs i blank).first (get_or fs i blank).next → Sound gs h (count - 1)
-    begin_sound gs h q w = rw (q, w) (∥∥₁_map sound (λ l. record { live = _; free = _; laid = freeing.begun_laid (next l).laid e p }))
+    pub begin_sound : (e : FrameError) (p : ℕ) (gs : List Frame) (h : Option ℕ) → gs ≡ begun_frames fs i e p → h ≡ option_or (get_or fs i blank).first (get_or fs i blank).next → Sound gs h (count - 1)
+    begin_sound e p gs h q w = rw (q, w) (∥∥₁_map sound (λ l. record { live = _; free = _; laid = freeing.begun_laid (next l).laid e p }))
 
-    pub begin_answer : (gs : List Frame) → gs ≡ begun_frames fs i e p → Begun fs gs e p i
-    begin_answer gs q = rw q (∥∥₁_elim sound (begun_prop _ _ _ _ _) (λ l. freeing.begun (next l).laid e p))
+    pub begin_answer : (e : FrameError) (p : ℕ) (gs : List Frame) → gs ≡ begun_frames fs i e p → Begun fs gs e p i
+    begin_answer e p gs q = rw q (∥∥₁_elim sound (begun_prop _ _ _ _ _) (λ l. freeing.begun (next l).laid e p))
 
   -- a report and a row
   module _ (x y : ℕ) (live : is_some (reports fs x) ≡ true) (begun : is_some (rows fs y) ≡ true) where
@@ -209,12 +190,12 @@ module _ {fs : List Frame} {head : Option ℕ} {count : ℕ} (sound : Sound fs h
     pub push_means : (gs : List Frame) → gs ≡ pushed_frames fs x y → Means gs (update eqb (reports fs) x None) (update eqb (rows fs) y (joined (rows fs y) (alone x (reports fs x))))
     push_means gs e = rw e (∥∥₁_elim sound (means_prop _ _ _) (λ l. joins.pushed_tells (both l).laid))
 
+-- what bounds the numbers, links and sizes that a call reads
+pub ruleset bounds = (live_below, within_first, some_size, size_is, head_below, within_next, within_last_root, row_larger, row_fits, free_count, free_below, within_free, some_free, row_below, within_kids, within_row, both_fit)
+
 -- two calls, one after the other
 cond_twice : {A : Type 0} (j y : ℕ) (w : Option A) (f : ℕ → Option A) → f y ≡ None → cond (eqb j y) None (cond (eqb j y) w (f j)) ≡ f j
-cond_twice j y w f n = ⊎_elim
-    (λ q. cond-true (eqb j y) _ _ (eq-eqb j y q) ∙ sym (ap f q ∙ n))
-    (λ q. cond-false (eqb j y) _ _ (ne_eqb j y q) ∙ cond-false (eqb j y) _ _ (ne_eqb j y q))
-    (cases_eq j y)
+cond_twice j y w f n = grind (arith, nat_tests)
 
 -- a row that was made of a report is gone again
 pub row_gone : (fs gs : List Frame) (y : ℕ) → is_some (reports fs y) ≡ true → Means gs (update eqb (reports fs) y None) (update eqb (rows fs) y (alone y (reports fs y)))

@@ -1,7 +1,7 @@
 -- Frames that are all free.
-use Rattle.std.proofs.Common.{◌≡◌, ℕ, zero, suc, ◌+◌, ◌<◌, ◌≤◌, List, [], length, set, Some, None, Option, refl, ap, ◌∙◌, ⊎_elim, add-one, arith}
+use Rattle.std.proofs.Common.{◌≡◌, ℕ, zero, suc, ◌+◌, ◌-◌, ◌<◌, ◌≤◌, List, [], length, get_or, Some, None, Option, refl, ap, ◌∙◌, ⊎_elim, add-one, arith}
 use Rattle.std.proofs.lemmas.Bool.{cases_eq}
-use Rattle.std.proofs.lemmas.List.{get_or-set_same, length-set}
+use Rattle.std.specs.Option.{SomeIff}
 use Rattle.vocabulary.specs.declared.frame_error.FrameError.TheVariants.{Host}
 use Rattle.trees.specs.Numbered.{size, tally, head_of}
 use Rattle.trees.proofs.Numbered.{one_same, one_other}
@@ -9,7 +9,6 @@ use Rattle.layout.specs.declared.frame.Role.TheVariants.{Linked}
 use Rattle.layout.specs.declared.frame.Frame.{Frame}
 use Rattle.layout.specs.Layout.{blank, Held, Laid, Sound, down}
 use Rattle.layout.specs.Reports.{Means}
-use Rattle.layout.proofs.Held.{held_set}
 use Rattle.layout.proofs.Told.{told}
 
 down-size : (i : ℕ) → size (down i) ≡ i
@@ -31,43 +30,45 @@ down_once (suc i) n h =
     (λ q. let a = one_other n i q in let b = down_once i n (omega arith) in omega arith)
     (cases_eq n i)
 
--- the frames below a number are linked, the last first
-pub record Linked-below (fs : List Frame) (free : Option ℕ) (i : ℕ) : Type 0 where
-  pub begins : free ≡ head_of (down i)
-  pub held : Held fs Linked (down i)
-  pub long : length fs ≡ 1024
-
-pub below_none : (fs : List Frame) → length fs ≡ 1024 → Linked-below fs None 0
-unfolding down
-below_none fs l = record { begins = refl; held = tt; long = l }
-
 abbrev pub free_frame : Option ℕ → Frame
 free_frame next = record { error = Host 0; place = 0; first = None; last = None; next = next; size = 1; role = Linked }
 
-pub below_more : (fs : List Frame) (free : Option ℕ) (i : ℕ) → Linked-below fs free i → i < 1024 → Linked-below (set fs i (free_frame free)) (Some i) (i + 1)
+-- each frame is free and links to the one before it
+abbrev pub EachFree : List Frame → Type 0
+EachFree fs = (i : ℕ) → i < 1024 → (o : Option ℕ) × SomeIff o (1 ≤ i) (i - 1) × (get_or fs i blank ≡ free_frame o)
+
+before_is : (i : ℕ) (o : Option ℕ) → SomeIff o (1 ≤ i) (i - 1) → o ≡ head_of (down i)
 unfolding down
-below_more fs free i b lt =
-    let lf : i < length fs = (let a = b.long in omega arith) in
-    rw add-one
-    (record {
-      begins = refl;
-      held = (simp length-set lf, get_or-set_same fs i _ blank lf ∙ ap free_frame b.begins, tt, held_set fs Linked (down i) i _ b.held (down_past i i (omega arith)));
-      long = simp length-set b.long;
-    })
+before_is zero None s = refl
+before_is zero (Some x) s = absurd (let a = s.0 in omega arith)
+before_is (suc i) None s = absurd (s (omega arith))
+before_is (suc i) (Some x) s = ap Some (let a = s.1 in omega arith)
 
-pub below_all : (fs : List Frame) (free : Option ℕ) (i : ℕ) → Linked-below fs free i → i ≡ 1024 → Laid fs free 1024 [] (down i)
-below_all fs free i b e = record {
-  stand = tt;
-  spare = b.held;
-  begins = b.begins;
-  once = λ n lt. let q = down_once i n (omega arith) in omega arith;
-  left = let q = down-size i in omega arith;
-  all = let q = down-size i in omega arith;
-  long = b.long;
-}
+head_down : (n : ℕ) → Some n ≡ head_of (down (n + 1))
+unfolding down
+head_down n = rw add-one refl
 
-pub empty_sound : (fs : List Frame) (free : Option ℕ) (i : ℕ) → Linked-below fs free i → i ≡ 1024 → Sound fs free 1024
-empty_sound fs free i b e = ∣ record { live = []; free = down i; laid = below_all fs free i b e } ∣₁
+module _ (fs : List Frame) (long : length fs ≡ 1024) (each : EachFree fs) where
+  held_down : (i : ℕ) → i ≤ 1024 → Held fs Linked (down i)
+  unfolding down
+  held_down zero le = tt
+  held_down (suc i) le =
+      let f = each i (omega arith) in
+      ((omega arith), f.2 ∙ ap free_frame (before_is i f.0 f.1), tt, held_down i (omega arith))
 
-pub empty_means : (fs : List Frame) (free : Option ℕ) (i : ℕ) → Linked-below fs free i → i ≡ 1024 → Means fs (λ j. None) (λ j. None)
-empty_means fs free i b e = let t = told (below_all fs free i b e) in record { reports = λ j. (t j).0; rows = λ j. (t j).1 }
+  all_free : (n : ℕ) → n + 1 ≡ 1024 → Laid fs (Some n) 1024 [] (down (n + 1))
+  all_free n e = record {
+    stand = tt;
+    spare = held_down (n + 1) (omega arith);
+    begins = head_down n;
+    once = λ m lt. let q = down_once (n + 1) m (omega arith) in omega arith;
+    left = let q = down-size (n + 1) in omega arith;
+    all = let q = down-size (n + 1) in omega arith;
+    long = long;
+  }
+
+  pub empty_sound : Sound fs (Some 1023) 1024
+  empty_sound = ∣ record { live = []; free = _; laid = all_free 1023 refl } ∣₁
+
+  pub empty_means : Means fs (λ j. None) (λ j. None)
+  empty_means = let t = told (all_free 1023 refl) in record { reports = λ j. (t j).0; rows = λ j. (t j).1 }

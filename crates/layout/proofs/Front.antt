@@ -78,6 +78,10 @@ relaid new l s t m = record {
   long = l.long;
 }
 
+-- a block comes to the front
+pub fronted : {fs : List Frame} {head : Option ℕ} {count : ℕ} {live : List Block} {free : Numbered} {b : Block} → Laid fs head count live free → (w : With fs live b) → Laid fs head count (b ∷ w.rest) free
+fronted l w = relaid _ l (w.held, w.stand) w.same w.many
+
 pub record FrontReport (fs : List Frame) (head : Option ℕ) (count : ℕ) (free : Numbered) (x : ℕ) : Type 0 where
   pub error : FrameError
   pub place : ℕ
@@ -109,25 +113,12 @@ module _ {fs : List Frame} {head : Option ℕ} {count : ℕ} {live : List Block}
   pub front_report : (x : ℕ) → is_some (reports fs x) ≡ true → FrontReport fs head count free x
   front_report x s =
       let w = find_report fs live x l.stand (sym (ap is_some (told l x).0) ∙ s) in
-      record {
-        error = w.error;
-        place = w.place;
-        kids = w.kids;
-        rest = w.with.rest;
-        laid = relaid _ l (w.with.held, w.with.stand) w.with.same w.with.many;
-      }
+      record { error = w.error; place = w.place; kids = w.kids; rest = w.with.rest; laid = fronted l w.with }
 
   pub front_row : (x : ℕ) → is_some (rows fs x) ≡ true → FrontRow fs head count free x
   front_row x s =
       let w = find_row fs live x l.stand (sym (ap is_some (told l x).1) ∙ s) in
-      record {
-        error = w.error;
-        place = w.place;
-        kids = w.kids;
-        more = w.more;
-        rest = w.with.rest;
-        laid = relaid _ l (w.with.held, w.with.stand) w.with.same w.with.many;
-      }
+      record { error = w.error; place = w.place; kids = w.kids; more = w.more; rest = w.with.rest; laid = fronted l w.with }
 
 pub front_both : {fs : List Frame} {head : Option ℕ} {count : ℕ} {live : List Block} {free : Numbered} (l : Laid fs head count live free)
     (x y : ℕ) → is_some (reports fs x) ≡ true → is_some (rows fs y) ≡ true → FrontBoth fs head count free x y

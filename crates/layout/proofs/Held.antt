@@ -1,10 +1,11 @@
 -- What a write to the frames leaves of the forests that they hold.
 use Rattle.std.proofs.Common.{◌≡◌, ℕ, ◌+◌, ◌<◌, ◌≤◌, ◌≢◌, List, [], ◌∷◌, length, get_or, set, Some, None, Option, sym, refl, ap, ◌∙◌, subst, ⊎_elim, arith}
+use Rattle.std.proofs.Math.Nat.{eq-zero-or-pos}
 use Rattle.std.proofs.lemmas.Bool.{cases_eq}
 use Rattle.std.proofs.lemmas.List.{get_or-set_same, get_or-set_other, length-set}
 use Rattle.vocabulary.specs.declared.frame_error.FrameError.{FrameError}
 use Rattle.trees.specs.Numbered.{Numbered, none, node, ◌beside◌, tally, head_of, last_from, last_of}
-use Rattle.trees.proofs.Numbered.{one_same, one_other, apart, some_or_none, last_in}
+use Rattle.trees.proofs.Numbered.{one_same, one_other, apart, last_in}
 use Rattle.layout.specs.declared.frame.Role.{Role}
 use Rattle.layout.specs.declared.frame.Role.TheVariants.{Linked}
 use Rattle.layout.specs.declared.frame.Frame.{Frame}
@@ -109,7 +110,7 @@ inside fs (node i e p k r) j h u =
     ⊎_elim
     (λ q. subst (λ (x : ℕ). (get_or fs x blank).role ≡ Linked) (sym q) (ap (λ (f : Frame). f.role) h.1))
     (λ q. let o = one_other j i q in
-    ⊎_elim (λ z. inside fs r j h.3 (omega arith)) (λ z. inside fs k j h.2 (omega arith)) (some_or_none (tally j k)))
+    ⊎_elim (λ z. inside fs r j h.3 (omega arith)) (λ z. inside fs k j h.2 (omega arith)) (eq-zero-or-pos (tally j k)))
     (cases_eq j i)
 
 pub tally_past : (fs : List Frame) (s : Role) (r : Numbered) (j : ℕ) → Held fs s r → length fs ≤ j → tally j r ≡ 0

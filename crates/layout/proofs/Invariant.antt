@@ -1,13 +1,15 @@
 -- The links of frames that are laid out are well formed.
+use Rattle.std.proofs.lemmas.Bool.Decides.{nat_tests}
 use Rattle.std.proofs.Common.{◌≡◌, ℕ, ◌+◌, ◌<◌, ◌≤◌, ◌⊎◌, List, [], ◌∷◌, length, get_or, Some, None, Option, sym, refl, ap, ◌∙◌, subst, inl, inr, ⊎_elim, arith}
 use mathlib.Core.Logic.{∥∥₁_elim, ∥∥₁_prop}
 use mathlib.Core.HLevel.{⊥_prop}
 use native.Mathlib.Nat.{ℕ_set}
+use Rattle.std.proofs.Math.Nat.{eq-zero-or-pos}
 use Rattle.std.proofs.lemmas.Bool.{cases_eq, cases_lt}
 use Rattle.std.proofs.lemmas.List.{get_or_past}
 use Rattle.vocabulary.specs.declared.frame_error.FrameError.{FrameError}
 use Rattle.trees.specs.Numbered.{Numbered, none, node, one, tally, head_of}
-use Rattle.trees.proofs.Numbered.{one_same, one_other, some_or_none}
+use Rattle.trees.proofs.Numbered.{one_same, one_other}
 use Rattle.layout.specs.declared.frame.Role.{Role}
 use Rattle.layout.specs.declared.frame.Role.TheVariants.{Linked}
 use Rattle.layout.specs.declared.frame.Frame.{Frame}
@@ -18,7 +20,7 @@ use Rattle.layout.proofs.Told.{is_first, linked_inside}
 use Rattle.layout.proofs.Front.{With, here as with_first, there as with-later}
 
 none_some : (n : ℕ) → Some n ≡ None → ⊥
-none_some n q = let w : ◌≡◌ {A = ℕ} 0 1 = cc in omega arith
+none_some n q = cc
 
 -- a node of a forest, with what is beneath it
 pub record Found (fs : List Frame) (r : Numbered) (n : ℕ) : Type 0 where
@@ -70,8 +72,16 @@ reach fs s (node i e p k r) n h u =
     (f.0, next (subst (λ (x : Option ℕ). Along fs x f.0) (sym (ap (λ (g : Frame). g.next) h.1)) f.1), f.2))
     (λ z. let f = reach fs Linked k n h.2 z in
     (i, here, down (subst (λ (x : Option ℕ). Along fs x f.0) (sym (ap (λ (g : Frame). g.first) h.1)) f.1) f.2))
-    (some_or_none (tally n k)))
+    (eq-zero-or-pos (tally n k)))
     (cases_eq n i)
+
+-- what the first node reaches, no later one does
+parted : (fs : List Frame) (s : Role) (i : ℕ) (e : FrameError) (p : ℕ) (k r : Numbered) (j c d n : ℕ) → Held fs s (node i e p k r) → tally n (node i e p k r) ≤ 1
+    → c ≡ i → From fs c n → j ≡ i → Along fs (get_or fs j blank).next d → From fs d n → ⊥
+parted fs s i e p k r j c d n h u ci f ji b g =
+    let x = from fs i n (subst (λ (y : ℕ). From fs y n) ci f) s e p k r h in
+    let y = beneath fs Linked r (get_or fs j blank).next d n h.3 b (ap (λ (z : ℕ). (get_or fs z blank).next) ji ∙ ap (λ (z : Frame). z.next) h.1) g in
+    omega arith
 
 -- two of the first nodes that reach one number are one
 alike : (fs : List Frame) (s : Role) (r : Numbered) (o o' : Option ℕ) (c d n : ℕ) → Held fs s r → tally n r ≤ 1
@@ -79,18 +89,8 @@ alike : (fs : List Frame) (s : Role) (r : Numbered) (o o' : Option ℕ) (c d n :
 alike fs s none o o' c d n h u here q f b w g = absurd (none_some c q)
 alike fs s none o o' c d n h u (next {i = i} a) q f b w g = absurd (none_some i q)
 alike fs s (node i e p k r) o o' c d n h u here q f here w g = cc
-alike fs s (node i e p k r) o o' c d n h u here q f (next {i = j} b) w g =
-    let ji : j ≡ i = cc in
-    let ci : c ≡ i = cc in
-    let x = from fs i n (subst (λ (y : ℕ). From fs y n) ci f) s e p k r h in
-    let y = beneath fs Linked r (get_or fs j blank).next d n h.3 b (ap (λ (z : ℕ). (get_or fs z blank).next) ji ∙ ap (λ (z : Frame). z.next) h.1) g in
-    absurd (omega arith)
-alike fs s (node i e p k r) o o' c d n h u (next {i = j} a) q f here w g =
-    let ji : j ≡ i = cc in
-    let di : d ≡ i = cc in
-    let x = from fs i n (subst (λ (y : ℕ). From fs y n) di g) s e p k r h in
-    let y = beneath fs Linked r (get_or fs j blank).next c n h.3 a (ap (λ (z : ℕ). (get_or fs z blank).next) ji ∙ ap (λ (z : Frame). z.next) h.1) f in
-    absurd (omega arith)
+alike fs s (node i e p k r) o o' c d n h u here q f (next {i = j} b) w g = absurd (parted fs s i e p k r j c d n h u (cc) f (cc) b g)
+alike fs s (node i e p k r) o o' c d n h u (next {i = j} a) q f here w g = absurd (parted fs s i e p k r j d c n h u (cc) g (cc) a f)
 alike fs s (node i e p k r) o o' c d n h u (next {i = j} a) q f (next {i = l} b) w g =
     let ji : j ≡ i = cc in
     let li : l ≡ i = cc in
@@ -108,7 +108,7 @@ anywhere fs s (node i e p k r) n h u =
     ⊎_elim
     (λ z. wider (anywhere fs Linked r n h.3 (omega arith)) (λ m. omega arith))
     (λ z. wider (anywhere fs Linked k n h.2 z) (λ m. omega arith))
-    (some_or_none (tally n k)))
+    (eq-zero-or-pos (tally n k)))
     (cases_eq n i)
   where
     wider : {t : Numbered} → Found fs t n → ((m : ℕ) → tally m t ≤ tally m (node i e p k r)) → Found fs (node i e p k r) n
@@ -144,7 +144,7 @@ headed fs (a ∷ bs) h s b u =
     (λ q. ⊎_elim
     (λ z. let f = headed fs bs h s.1 b (omega arith) in record { block = f.block; first = f.first; with = with-later fs a f.block bs s f.with })
     (λ z. absurd (not_linked _ b (linked_inside fs (role_of a) (nodes a) h s.0 q z)))
-    (some_or_none (tally h (nodes a))))
+    (eq-zero-or-pos (tally h (nodes a))))
     (is_first (nodes a) h)
 
 -- the blocks reach what counts in them
@@ -154,17 +154,17 @@ reach_live fs (b ∷ bs) n s u =
     ⊎_elim
     (λ z. reach_live fs bs n s.1 (omega arith))
     (λ z. let f = reach fs (role_of b) (nodes b) n s.0 z in (f.0, (rooted b s.0 f.0 f.1, f.2)))
-    (some_or_none (tally n (nodes b)))
+    (eq-zero-or-pos (tally n (nodes b)))
   where
     rooted : (b : Block) → Held fs (role_of b) (nodes b) → (r : ℕ) → Along fs (head_of (nodes b)) r → Root fs r
-    rooted (report i e p k) h r a = (i, subst Begins (sym (ap (λ (g : Frame). g.role) h.1)) tt, a)
-    rooted (row i e p k m) h r a = (i, subst Begins (sym (ap (λ (g : Frame). g.role) h.1)) tt, a)
+    rooted (report i e p k) h r a = grind (arith, nat_tests)
+    rooted (row i e p k m) h r a = grind (arith, nat_tests)
 
 module _ {fs : List Frame} {head : Option ℕ} {count : ℕ} {live : List Block} {free : Numbered} (l : Laid fs head count live free) where
   begins_live : (h : ℕ) → Begins (get_or fs h blank).role → (h < 1024) × (tallies h live ≡ 1)
   begins_live h b =
       ⊎_elim
-      (λ lt. (lt, ⊎_elim (λ z. let o = l.once h lt in omega arith) (λ z. absurd (not_linked _ b (inside fs free h l.spare z))) (some_or_none (tally h free))))
+      (λ lt. (lt, ⊎_elim (λ z. let o = l.once h lt in omega arith) (λ z. absurd (not_linked _ b (inside fs free h l.spare z))) (eq-zero-or-pos (tally h free))))
       (λ ge. absurd (not_linked _ b (ap (λ (g : Frame). g.role) (get_or_past fs h blank (let a = l.long in omega arith)))))
       (cases_lt h 1024)
 
@@ -193,7 +193,7 @@ module _ {fs : List Frame} {head : Option ℕ} {count : ℕ} {live : List Block}
       ⊎_elim
       (λ z. inr (reach_live fs live n l.stand (omega arith)))
       (λ z. let f = reach fs Linked free n l.spare z in inl (f.0, subst (λ (x : Option ℕ). Along fs x f.0) (sym l.begins) f.1, f.2))
-      (some_or_none (tally n free))
+      (eq-zero-or-pos (tally n free))
 
   pub is_either : (n r : ℕ) → Free fs head n → Belongs fs r n → ⊥
   is_either n r f b =
@@ -225,7 +225,7 @@ module _ {fs : List Frame} {head : Option ℕ} {count : ℕ} {live : List Block}
           let z : 1 ≤ tallies k f.with.rest =
           ⊎_elim (λ z. omega arith)
           (λ z. absurd (not_linked _ c.0.1 (linked_inside fs (role_of f.block) (nodes f.block) k f.with.held (λ q. ne (let g = f.first in (cc))) z)))
-          (some_or_none (tally k (nodes f.block))) in
+          (eq-zero-or-pos (tally k (nodes f.block))) in
           let g = headed fs f.with.rest k f.with.stand c.0.1 z in
           let w = beneath fs (role_of g.block) (nodes g.block) (Some k) s n g.with.held c.0.2 (sym g.first) c.1 in
           let x = g.with.same n in
@@ -238,7 +238,7 @@ module _ {fs : List Frame} {head : Option ℕ} {count : ℕ} {live : List Block}
       ⊎_elim
       (λ z. in_blocks live l.stand (omega arith) (omega arith))
       (λ z. forest_acyclic fs Linked free n l.spare (omega arith) z a)
-      (some_or_none (tally n free)))
+      (eq-zero-or-pos (tally n free)))
       (λ ge. let e = get_or_past fs n blank (let b = l.long in omega arith) in
       none_along (get_or fs n blank).first (ap (λ (g : Frame). g.first) e) a.1)
       (cases_lt n 1024)
@@ -253,7 +253,7 @@ module _ {fs : List Frame} {head : Option ℕ} {count : ℕ} {live : List Block}
           ⊎_elim
           (λ z. in_blocks bs s.1 (omega arith) (omega arith))
           (λ z. forest_acyclic fs (role_of b) (nodes b) n s.0 (omega arith) z a)
-          (some_or_none (tally n (nodes b)))
+          (eq-zero-or-pos (tally n (nodes b)))
 
 pub well_formed : {fs : List Frame} {head : Option ℕ} {count : ℕ} → Sound fs head count → WellFormed fs head
 well_formed s = record {

@@ -9,5 +9,6 @@ pub mod Count
 pub mod Free
 pub mod Empty
 pub mod Calls
+pub mod Appends
 pub mod Invariant
 pub mod Roots

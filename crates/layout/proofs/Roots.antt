@@ -2,7 +2,6 @@
 use Rattle.std.proofs.Common.{◌≡◌, ℕ, ◌+◌, ◌≤◌, true, false, eqb, List, [], ◌∷◌, length, is_some, Some, None, Option, sym, refl, ap, ◌∙◌, subst, ⊎_elim, arith}
 use mathlib.Core.Bool.{Bool-set}
 use mathlib.Core.Logic.{∥∥₁_elim}
-use mathlib.Core.HLevel.{×_prop}
 use native.Mathlib.Nat.{ℕ_set}
 use Rattle.std.proofs.lemmas.Bool.{cases_eq, cases_lt, ne_eqb, cond-false, false≢true}
 use Rattle.trees.specs.Trees.{Listing, among, first_root, list_of}
@@ -67,8 +66,8 @@ module _ {fs : List Frame} {head : Option ℕ} {count : ℕ} {live : List Block}
   first k s = let f = front_row l k s in ap (λ (u : Option Listing). first_root (list_of u)) (found k _ _ _ (told f.laid k).1)
 
 differ_prop : (x : Listing) → IsProp (Differ x)
-differ_prop [] = λ a b. refl
-differ_prop (y ∷ ys) = ×_prop (Bool-set _ _) (differ_prop ys)
+differ_prop [] = hlevel
+differ_prop (y ∷ ys) = let p = differ_prop ys in hlevel Bool-set
 
 pub roots_differ : {fs : List Frame} {head : Option ℕ} {count : ℕ} → Sound fs head count → RootsDiffer (reports fs) (rows fs)
 roots_differ s = record {

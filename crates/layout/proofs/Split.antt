@@ -1,11 +1,12 @@
 -- Children or later reports become a row of their own.
+use Rattle.std.proofs.lemmas.Bool.Decides.{nat_tests}
 use Rattle.std.proofs.Common.{◌≡◌, ℕ, ◌+◌, ◌-◌, ◌<◌, ◌≤◌, true, false, cond, eqb, List, [], ◌∷◌, length, get_or, set, Some, None, Option, sym, refl, ap, ◌∙◌, subst, ⊎_elim, arith}
 use Rattle.std.specs.Map.{update}
 use Rattle.std.proofs.lemmas.Bool.{cases_lt, cases_Bool, ne_eqb, cond-true, cond-false}
 use Rattle.std.proofs.lemmas.List.{length-set, get_or-set_same}
 use Rattle.vocabulary.specs.declared.frame_error.FrameError.{FrameError}
 use Rattle.trees.specs.Trees.{Tree, leaf, Listing, forest, among, first_root, list_of}
-use Rattle.trees.specs.Numbered.{Numbered, none, node, size, one, tally, tree_of, listing, head_of, last_from, last_of}
+use Rattle.trees.specs.Numbered.{Numbered, none, node, size, one, tally, listing, head_of, last_from, last_of}
 use Rattle.trees.proofs.Numbered.{one_same, forest-listing, among_absent, among_counts}
 use Rattle.layout.specs.declared.frame.Role.{Role}
 use Rattle.layout.specs.declared.frame.Role.TheVariants.{Linked, Report, Row}
@@ -15,7 +16,8 @@ use Rattle.layout.specs.Reports.{reports, rows, Means}
 use Rattle.layout.specs.Calls.{first_of, rest_of, opened, bare, children_of, Fresh, taken, Drained}
 use Rattle.layout.proofs.Held.{held_set, held-changed, stand_set, held_role, length-changed, off_head, within_last, within_head, tally_past}
 use Rattle.layout.proofs.Told.{told, absent}
-use Rattle.layout.proofs.Means.{covered_key, gone_key, added_key, found, turned, first_below, first_once}
+use Rattle.layout.proofs.Means.{covered_key, gone_key, added_key, found, first_below, first_once}
+use Rattle.layout.proofs.Rows.{report_frame, report_is}
 
 -- a forest as a row, if it has any tree
 abbrev pub rowed : Numbered → List Block → List Block
@@ -36,7 +38,7 @@ reports_rowed j (node i e p k r) bs = refl
 
 rows_rowed : (h : ℕ → Option Listing) (j : ℕ) (k : Numbered) (bs : List Block) → ((i : ℕ) → row_at i bs ≡ h i) → row_at j (rowed k bs) ≡ opened h (listing k) j
 rows_rowed h j none bs e = e j
-rows_rowed h j (node i a p k r) bs e = ap (λ (x : Option Listing). cond (eqb j i) (Some (listing (node i a p k r))) x) (e j) ∙ turned j i _ (h j)
+rows_rowed h j (node i a p k r) bs e = grind (arith, nat_tests)
 
 first_listing : (k : Numbered) → head_of k ≡ first_root (listing k)
 first_listing none = refl
@@ -87,9 +89,9 @@ split_layout {fs} {rest = rest} {free = free} l x e p k out q hk ho same many =
       long = length-set fs1 x _ ∙ long1;
     }
 
-opened_same : (g h : ℕ → Option Listing) (x : Listing) (j : ℕ) → ((i : ℕ) → g i ≡ h i) → opened g x j ≡ opened h x j
+pub opened_same : (g h : ℕ → Option Listing) (x : Listing) (j : ℕ) → ((i : ℕ) → g i ≡ h i) → opened g x j ≡ opened h x j
 opened_same g h [] j e = e j
-opened_same g h (y ∷ ys) j e = ap (λ (z : Option Listing). cond (eqb y.0 j) (Some (y ∷ ys)) z) (e j)
+opened_same g h (y ∷ ys) j e = grind (arith, nat_tests)
 
 -- a number of no block is no root in a row
 pub not_among : (bs : List Block) (n h : ℕ) → tallies n bs ≡ 0 → among n (list_of (row_at h bs)) ≡ false
@@ -131,7 +133,7 @@ drained_from fs gs x s a b = rw (a, b)
 popped_role : (fs : List Frame) (x : ℕ) (r : Numbered) (n : ℕ) (f : Frame) → n ≡ size r
     → split_at fs x (head_of r) (row_role (last_of r) (size r)) f ≡ split_at fs x (head_of r) (row_role (Some (last_from x r)) n) f
 popped_role fs x none n f q = refl
-popped_role fs x (node i e p k r) n f q = ap (λ (m : ℕ). split_at fs x (Some i) (Row (last_from i r) m) f) (sym q)
+popped_role fs x (node i e p k r) n f q = grind (arith, nat_tests)
 
 -- the first report of a row stands alone again
 module _ {fs : List Frame} {head : Option ℕ} {count x : ℕ} {e : FrameError} {p : ℕ} {k r : Numbered} {rest : List Block} {free : Numbered}
@@ -161,7 +163,7 @@ module _ {fs : List Frame} {head : Option ℕ} {count x : ℕ} {e : FrameError} 
       }
 
   popped_is : split_at fs x (head_of r) (row_role (last_of r) (size r)) (frame_of Report e p k none) ≡ popped_frames fs x
-  popped_is = popped_role fs x r (size (node x e p k r) - (size k + 1)) _ (omega arith) ∙ sym (ap (popped_by fs x) row_frame)
+  popped_is = grind (arith, nat_tests)
 
   pub popped_laid : Laid (popped_frames fs x) head count (report x e p k ∷ rowed r rest) free
   popped_laid = subst (λ (gs : List Frame). Laid gs head count (report x e p k ∷ rowed r rest) free) popped_is popped_layout
@@ -179,7 +181,7 @@ module _ {fs : List Frame} {head : Option ℕ} {count x : ℕ} {e : FrameError} 
   row_larger = rw row_frame (omega arith)
 
   pub row_fits : row_size (get_or fs x blank).role + count ≤ 1024
-  row_fits = rw row_frame (let a = l.all in let b = l.left in omega arith)
+  row_fits = grind (arith, nat_tests)
 
   pub within_row : Within (last_root (get_or fs x blank).role)
   within_row = rw row_frame (within_last fs _ (node x e p k r) l.long l.stand.0)
@@ -187,14 +189,8 @@ module _ {fs : List Frame} {head : Option ℕ} {count x : ℕ} {e : FrameError} 
 -- the children of a report's root become a row
 module _ {fs : List Frame} {head : Option ℕ} {count x : ℕ} {e : FrameError} {p : ℕ} {k : Numbered} {rest : List Block} {free : Numbered}
     (l : Laid fs head count (report x e p k ∷ rest) free) where
-  top_frame : get_or fs x blank ≡ frame_of Report e p k none
-  top_frame = l.stand.0.1
-
-  top_is : reports fs x ≡ Some (tree_of e p k)
-  top_is = found x _ _ _ (told l x).0
-
   drained_is : split_at fs x (head_of k) (row_role (last_of k) (size k)) (frame_of Report e p none none) ≡ drained_frames fs x
-  drained_is = ap (λ (n : ℕ). split_at fs x (head_of k) (row_role (last_of k) n) (frame_of Report e p none none)) (omega arith) ∙ sym (ap (drained_by fs x) top_frame)
+  drained_is = grind (arith, nat_tests)
 
   pub drained_laid : Laid (drained_frames fs x) head count (report x e p none ∷ rowed k rest) free
   drained_laid = subst (λ (gs : List Frame). Laid gs head count (report x e p none ∷ rowed k rest) free) drained_is
@@ -223,19 +219,19 @@ module _ {fs : List Frame} {head : Option ℕ} {count x : ℕ} {e : FrameError} 
       below n c = ⊎_elim (λ lt. lt) (λ ge. absurd (let z = tally_past fs Linked k n l.stand.0.2 (let g = l.long in omega arith) in omega arith)) (cases_lt n 1024)
 
   pub drained : Drained fs (drained_frames fs x) x (get_or fs x blank).first
-  drained = subst (λ (o : Option ℕ). Drained fs (drained_frames fs x) x o) (sym (ap (λ (f : Frame). f.first) top_frame)) (record {
-    children = ap forest row_of_children ∙ forest-listing k ∙ sym (ap children_of top_is);
+  drained = subst (λ (o : Option ℕ). Drained fs (drained_frames fs x) x o) (sym (ap (λ (f : Frame). f.first) (report_frame l))) (record {
+    children = ap forest row_of_children ∙ forest-listing k ∙ sym (ap children_of (report_is l));
     first = first_listing k ∙ sym (ap first_root row_of_children);
     fresh = λ n a. children_fresh n (sym (ap (among n) row_of_children) ∙ a);
     means = record {
       reports = λ j. (told drained_laid j).0 ∙ ap (λ (z : Option Tree). cond (eqb j x) (Some (leaf e p)) z) (reports_rowed j k rest)
-          ∙ covered_key j x _ _ _ _ _ (sym (ap bare top_is)) (told l j).0;
+          ∙ covered_key j x _ _ _ _ _ (sym (ap bare (report_is l))) (told l j).0;
       rows = λ j. (told drained_laid j).1 ∙ rows_rowed (rows fs) j k rest (λ i. sym (told l i).1) ∙ ap (λ (z : Listing). opened (rows fs) z j) (sym row_of_children);
     };
   })
 
   pub within_first : Within (get_or fs x blank).first
-  within_first = rw top_frame (within_head fs Linked k l.long l.stand.0.2)
+  within_first = rw (report_frame l) (within_head fs Linked k l.long l.stand.0.2)
 
   pub some_size : 1 ≤ (get_or fs x blank).size
-  some_size = rw top_frame (omega arith)
+  some_size = rw (report_frame l) (omega arith)

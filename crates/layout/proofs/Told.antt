@@ -1,11 +1,13 @@
 -- What the frames mean is what their blocks say.
-use Rattle.std.proofs.Common.{◌≡◌, ℕ, zero, suc, ◌≤◌, true, cond, eqb, ◌⊎◌, List, [], ◌∷◌, length, get_or, is_some, Some, None, Option, sym, refl, ap, ◌∙◌, subst, ap₂, inl, inr, ⊎_elim, arith}
-use Rattle.std.proofs.lemmas.Bool.{cases_eq, cases_lt, eq-eqb, ne_eqb, cond-true, cond-false, false≢true}
+use Rattle.std.proofs.lemmas.Bool.Decides.{nat_tests}
+use Rattle.std.proofs.Common.{◌≡◌, ℕ, zero, suc, ◌≤◌, true, eqb, ◌⊎◌, List, [], ◌∷◌, length, get_or, is_some, Some, None, Option, sym, refl, ap, ◌∙◌, subst, ap₂, inr, ⊎_elim, arith}
+use Rattle.std.proofs.Math.Nat.{eq-zero-or-pos}
+use Rattle.std.proofs.lemmas.Bool.{cases_lt, eq-eqb, ne_eqb, cond-true, cond-false, false≢true}
 use Rattle.std.proofs.lemmas.List.{get_or_past}
 use Rattle.vocabulary.specs.declared.frame_error.FrameError.{FrameError}
 use Rattle.trees.specs.Trees.{Tree, Listing}
 use Rattle.trees.specs.Numbered.{Numbered, none, node, shape, tree_of, listing, size, tally, head_of}
-use Rattle.trees.proofs.Numbered.{one_same, one_other, apart, some_or_none}
+use Rattle.trees.proofs.Numbered.{one_same, one_other, apart}
 use Rattle.layout.specs.declared.frame.Role.{Role}
 use Rattle.layout.specs.declared.frame.Role.TheVariants.{Linked, Report, Row}
 use Rattle.layout.specs.declared.frame.Frame.{Frame}
@@ -42,7 +44,7 @@ Tells fs j t x = (reports fs j ≡ t) × (rows fs j ≡ x)
 -- a frame that begins nothing
 pub tells_none : (fs : List Frame) (j : ℕ) → (get_or fs j blank).role ≡ Linked → Tells fs j None None
 unfolding reports rows
-tells_none fs j e = (ap (λ (s : Role). if_report s (tree_at fs j)) e, ap (λ (s : Role). if_row s (read_row 1024 fs (Some j))) e)
+tells_none fs j e = grind (arith, nat_tests)
 
 pub tells_held : (fs : List Frame) (b : Block) (j : ℕ) → Held fs (role_of b) (nodes b) → size (nodes b) ≤ 1024 → head_of (nodes b) ≡ Some j → Tells fs j (report_at j (b ∷ [])) (row_at j (b ∷ []))
 unfolding reports rows
@@ -71,24 +73,24 @@ absent (row i e p k r ∷ bs) j z =
 
 -- the first block and the others
 pub report_at_cons : (b : Block) (bs : List Block) (j : ℕ) → report_at j bs ≡ None → report_at j (b ∷ bs) ≡ report_at j (b ∷ [])
-report_at_cons (report i e p k) bs j z = ap (λ (x : Option Tree). cond (eqb j i) (Some (tree_of e p k)) x) z
+report_at_cons (report i e p k) bs j z = grind (arith, nat_tests)
 report_at_cons (row i e p k r) bs j z = z
 
 pub row_at_cons : (b : Block) (bs : List Block) (j : ℕ) → row_at j bs ≡ None → row_at j (b ∷ bs) ≡ row_at j (b ∷ [])
 row_at_cons (report i e p k) bs j z = z
-row_at_cons (row i e p k r) bs j z = ap (λ (x : Option Listing). cond (eqb j i) (Some (listing (node i e p k r))) x) z
+row_at_cons (row i e p k r) bs j z = grind (arith, nat_tests)
 
 -- a block whose first root is another
 pub others : (b : Block) (bs : List Block) (j : ℕ) → (head_of (nodes b) ≡ Some j → ⊥) → (report_at j (b ∷ bs) ≡ report_at j bs) × (row_at j (b ∷ bs) ≡ row_at j bs)
-others (report i e p k) bs j n = (cond-false (eqb j i) _ _ (ne_eqb j i (λ q. n (ap Some (sym q)))), refl)
-others (row i e p k r) bs j n = (refl, cond-false (eqb j i) _ _ (ne_eqb j i (λ q. n (ap Some (sym q)))))
+others (report i e p k) bs j n = grind (arith, nat_tests)
+others (row i e p k r) bs j n = grind (arith, nat_tests)
 
 pub is_first : (r : Numbered) (j : ℕ) → (head_of r ≡ Some j) ⊎ (head_of r ≡ Some j → ⊥)
-is_first none j = inr (λ q. let w : ◌≡◌ {A = ℕ} 0 1 = cc in omega arith)
-is_first (node i e p k r) j = ⊎_elim (λ q. inl (ap Some (sym q))) (λ q. inr (λ w. q (cc))) (cases_eq j i)
+is_first none j = inr (λ q. cc)
+is_first (node i e p k r) j = grind (arith, nat_tests)
 
 pub first_counts : (r : Numbered) (j : ℕ) → head_of r ≡ Some j → 1 ≤ tally j r
-first_counts none j q = absurd (let w : ◌≡◌ {A = ℕ} 0 1 = cc in omega arith)
+first_counts none j q = absurd cc
 first_counts (node i e p k r) j q = let ij : j ≡ i = cc in let o = one_same j i ij in omega arith
 
 -- the frame of a node that is not the first begins nothing
@@ -96,7 +98,7 @@ pub linked_inside : (fs : List Frame) (s : Role) (r : Numbered) (j : ℕ) → He
 linked_inside fs s none j h n u = absurd (omega arith)
 linked_inside fs s (node i e p k r) j h n u =
     let o = one_other j i (λ q. n (ap Some (sym q))) in
-    ⊎_elim (λ z. inside fs r j h.3 (omega arith)) (λ z. inside fs k j h.2 z) (some_or_none (tally j k))
+    ⊎_elim (λ z. inside fs r j h.3 (omega arith)) (λ z. inside fs k j h.2 z) (eq-zero-or-pos (tally j k))
 
 -- among blocks that hold a number once
 told-live : (fs : List Frame) (bs : List Block) (j : ℕ) → Stand fs bs → sizes bs ≤ 1024 → tallies j bs ≡ 1 → Tells fs j (report_at j bs) (row_at j bs)
@@ -111,7 +113,7 @@ told-live fs (b ∷ bs) j h u o =
     (λ z. let t = told-live fs bs j h.1 (omega arith) (omega arith) in (t.0 ∙ sym c.0, t.1 ∙ sym c.1))
     (λ z. let t = tells_none fs j (linked_inside fs (role_of b) (nodes b) j h.0 q z) in
     let a = absent bs j (omega arith) in (t.0 ∙ sym a.0 ∙ sym c.0, t.1 ∙ sym a.1 ∙ sym c.1))
-    (some_or_none (tally j (nodes b))))
+    (eq-zero-or-pos (tally j (nodes b))))
     (is_first (nodes b) j)
 
 pub told : {fs : List Frame} {head : Option ℕ} {count : ℕ} {live : List Block} {free : Numbered} → Laid fs head count live free → (j : ℕ) → Tells fs j (report_at j live) (row_at j live)
@@ -121,7 +123,7 @@ told {fs} {live = live} {free = free} l j =
     ⊎_elim
     (λ z. told-live fs live j l.stand (let a = l.all in omega arith) (omega arith))
     (λ z. let t = tells_none fs j (inside fs free j l.spare z) in let a = absent live j (omega arith) in (t.0 ∙ sym a.0, t.1 ∙ sym a.1))
-    (some_or_none (tally j free)))
+    (eq-zero-or-pos (tally j free)))
     (λ ge. let m : length fs ≤ j = (let a = l.long in omega arith) in
     let t = tells_none fs j (ap (λ (f : Frame). f.role) (get_or_past fs j blank m)) in
     let a = absent live j (tallies_past fs live j l.stand m) in (t.0 ∙ sym a.0, t.1 ∙ sym a.1))

@@ -1,8 +1,8 @@
 -- What the calls do to reports and rows.
-use Rattle.std.specs.Prelude.{◌≡◌, ℕ, ◌<◌, true, false, List, [], Some, None, Option, nat_eq}
+use Rattle.std.specs.Prelude.{◌≡◌, ℕ, ◌<◌, true, false, List, [], ◌++◌, Some, None, Option, nat_eq}
 use Rattle.std.specs.Map.{update}
 use Rattle.trees.specs.Trees.{leaf, Listing, forest, among, first_root, list_of}
-pub use Rattle.trees.specs.Listings.{alone, under, joined, first_of, rest_of, opened, bare, children_of}
+pub use Rattle.trees.specs.Listings.{alone, under, joined, first_of, rest_of, opened, without, bare, children_of}
 use Rattle.vocabulary.specs.declared.frame_error.FrameError.{FrameError}
 use Rattle.trees.specs.Counting.{unused}
 use Rattle.layout.specs.declared.frame.Frame.{Frame}
@@ -17,6 +17,10 @@ pub record Fresh (fs : List Frame) (n : ℕ) : Type 0 where
 abbrev pub taken : List Frame → Option ℕ → Listing
 taken fs None = []
 taken fs (Some n) = list_of (rows fs n)
+
+-- and with one report more at its end
+abbrev pub with_last : List Frame → Option ℕ → ℕ → Listing
+with_last fs head x = taken fs head ++ list_of (alone x (reports fs x))
 
 -- the children of the root at `x` are a row that the answer names, under numbers that were no roots, and the root is a leaf
 pub record Drained (before after : List Frame) (x : ℕ) (answer : Option ℕ) : Type 0 where

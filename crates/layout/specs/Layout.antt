@@ -91,10 +91,6 @@ abbrev pub Within : Option ℕ → Type 0
 Within None = Unit {0}
 Within (Some i) = i < 1024
 
-abbrev pub either : Option ℕ → Option ℕ → Option ℕ
-either None b = b
-either (Some i) b = Some i
-
 abbrev pub is_report : Role → Bool
 is_report Linked = false
 is_report Report = true

@@ -6,6 +6,7 @@ use Rattle.std.specs.Map.{update}
 use Rattle.vocabulary.specs.declared.frame_error.FrameError.{FrameError}
 use Rattle.trees.specs.Counting.{unused}
 use Rattle.trees.specs.Listings.{alone, bare, children_of, opened, under}
+pub use Rattle.trees.specs.Listings.{without}
 use Rattle.trees.specs.Trees.{Tree, Listing, among, forest, leaf, list_of, only}
 
 pub record Ledger : Type 0 where
@@ -29,11 +30,6 @@ pub record Fresh (l : Ledger) (n : ℕ) : Type 0 where
 abbrev pub row_of : Ledger → Option ℕ → Listing
 row_of l None = []
 row_of l (Some h) = list_of (l.rows h)
-
--- the baskets without one
-abbrev pub without : (ℕ → Option Listing) → Option ℕ → ℕ → Option Listing
-without rows None j = rows j
-without rows (Some h) j = update nat_eq rows h None j
 
 -- what each granted call makes of the ledger; `n` is the root that it gave to a new frame
 

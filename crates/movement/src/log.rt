@@ -1,8 +1,12 @@
+use arrayvec::ArrayVec;
+use std::fmt;
 use store::store::Store;
+use vocabulary::fault::StoreFault;
 
 // The calls that the program makes on a store.
-#[derive(Clone, Copy)]
+#[derive(Clone, Copy, Default)]
 pub enum Call {
+    #[default]
     New,
     Collect,
     RaiseAll,
@@ -13,9 +17,9 @@ pub enum Call {
     Discard,
 }
 
-impl Call {
-    pub fn name(self) -> &'static str {
-        match self {
+impl fmt::Display for Call {
+    fn fmt<W: fmt::Write>(&self, f: &mut fmt::Formatter<W>) -> fmt::Result {
+        f.pad(match self {
             Call::New => "new",
             Call::Collect => "collect",
             Call::RaiseAll => "raise_all",
@@ -24,51 +28,58 @@ impl Call {
             Call::Take => "take",
             Call::Chain => "chain",
             Call::Discard => "discard",
-        }
+        })
     }
 }
 
 // What a call answered, and how many frames were free afterwards.
-#[derive(Clone, Copy)]
+#[derive(Clone, Copy, Default)]
 pub struct Step {
-    pub call: Call,
-    pub refused: Option<u8>,
-    pub free: usize,
+    call: Call,
+    refused: Option<StoreFault>,
+    free: usize,
 }
 
-// The calls so far, at most 24.
+impl fmt::Display for Step {
+    fn fmt<W: fmt::Write>(&self, f: &mut fmt::Formatter<W>) -> fmt::Result {
+        let Step {
+            call,
+            refused,
+            free,
+        } = *self;
+        match refused {
+            None => write!(f, "{call:<15} granted, {free} frames free"),
+            Some(fault) => {
+                let number = fault.number();
+                write!(f, "{call:<15} refused with {number}, {free} frames free")
+            }
+        }
+    }
+}
+
+// The calls so far, at most 24; those after them are not kept.
 #[derive(Drop)]
 pub struct Log {
-    steps: [Step; 24],
-    count: usize,
+    steps: ArrayVec<Step, 24>,
 }
 
 impl Log {
     pub fn new() -> Log {
-        let none = Step {
-            call: Call::New,
-            refused: None,
-            free: 0,
-        };
         Log {
-            steps: [none; 24],
-            count: 0,
+            steps: ArrayVec::new(),
         }
     }
 
-    pub fn note(&mut self, store: &Store, call: Call, refused: Option<u8>) {
-        let at = self.count;
-        if at < 24 {
-            self.steps[at] = Step {
-                call,
-                refused,
-                free: store.free(),
-            };
-            self.count = at + 1;
-        }
+    pub fn note(&mut self, store: &Store, call: Call, refused: Option<StoreFault>) {
+        let step = Step {
+            call,
+            refused,
+            free: store.free(),
+        };
+        let _ = self.steps.try_push(step);
     }
 
     pub fn steps(&self) -> &[Step] {
-        &self.steps[0..self.count.min(24)]
+        self.steps.as_slice()
     }
 }

@@ -2,8 +2,8 @@
 // their texts and kinds, then the class and both verdicts; and the building calls that a report of it takes.
 #![tactic(auto)]
 
-use crate::log::Log;
 use anyhow::anyhow;
+use classes::class::Class;
 use drive_host::drive::DriveHost;
 
 mod build;
@@ -11,6 +11,7 @@ mod log;
 
 use host::host::Host;
 use host::judge::{dominant_class, retry};
+use host::sources::Chain;
 use std::env;
 use vocabulary::fault::HostFault;
 use vocabulary::kind::Kind;
@@ -22,20 +23,21 @@ Prints what the drive error of that number (0 to 47; 34 if none is given) and
 the sources beneath it are, their class and whether to try again.";
 
 // What a kind says beside its name.
-fn detail(kind: Kind) -> &'static str {
+fn detail(kind: Kind) -> Option<&'static str> {
     match kind {
-        Kind::Io(io_kind) => io_kind.name(),
-        Kind::ClassificationMarker(class) => class.name(),
-        Kind::Message(Some(class)) => class.name(),
-        Kind::Message(None) => "no class",
-        Kind::Plain | Kind::TryReserveError => "",
+        Kind::Io(io_kind) => Some(io_kind.name()),
+        Kind::ClassificationMarker(class) => Some(class.name()),
+        Kind::Message(class) => Some(class.map_or("no class", Class::name)),
+        Kind::Plain | Kind::TryReserveError => None,
     }
 }
 
+// A type with `Display` for two words would be no plainer.
 fn yes_or_no(answer: bool) -> &'static str {
     if answer { "yes" } else { "no" }
 }
 
+// The words are this program's. No `From`: both types are other crates'.
 fn fault_text(fault: HostFault) -> anyhow::Error {
     match fault {
         HostFault::NotLive(_) => anyhow!("the drive has no error of this number"),
@@ -43,50 +45,35 @@ fn fault_text(fault: HostFault) -> anyhow::Error {
     }
 }
 
-// Prints one error and answers its source.
-fn print_error(rt: &HostRuntime, error: u16) -> anyhow::Result<Option<u16>> {
+fn print_error(rt: &HostRuntime, error: u16) -> anyhow::Result<()> {
     let host = DriveHost;
+    // a host fills a part that is lent to it
     let mut buffer = [0u8; 255];
-    let (Ok(kind), Ok(len), Ok(source)) = (
-        host.kind(error),
-        host.text(error, &mut buffer),
-        host.source(error),
-    ) else {
-        return Err(fault_text(HostFault::NotLive(error)));
-    };
+    let kind = host.kind(error).map_err(fault_text)?;
+    let len = host.text(error, &mut buffer).map_err(fault_text)?;
     let text = std::str::from_utf8(&buffer[0..len.min(255)])?;
-    let name = kind.name();
     match detail(kind) {
-        "" => println!(rt; "  {error:>2}  {text:<9} {name}")?,
-        more => println!(rt; "  {error:>2}  {text:<9} {name} {more}")?,
+        Some(more) => println!(rt; "  {error:>2}  {text:<9} {kind} {more}")?,
+        None => println!(rt; "  {error:>2}  {text:<9} {kind}")?,
     }
-    Ok(source)
+    Ok(())
 }
 
 fn print_account(rt: &HostRuntime, error: u16) -> anyhow::Result<()> {
     let host = DriveHost;
     println!(rt; "The movement ended with error {error}. From the gate down:")?;
-    let mut next = Some(error);
-    for _ in 0..host.span() {
-        if let Some(e) = next {
-            next = print_error(rt, e)?;
-        }
+    for e in Chain::of(&host, error).map_err(fault_text)? {
+        print_error(rt, e)?;
     }
-    let (Ok(class), Ok(strict), Ok(lenient)) = (
-        dominant_class(&host, error),
-        retry(&host, &StandardPolicy::CanRetry, error),
-        retry(&host, &StandardPolicy::CanRetryLenient, error),
-    ) else {
-        return Err(fault_text(HostFault::NotLive(error)));
-    };
-    match class {
+    match dominant_class(&host, error).map_err(fault_text)? {
         Some(class) => {
-            let name = class.name();
             let rank = class.rank();
-            println!(rt; "Class: {name} (rank {rank})")?;
+            println!(rt; "Class: {class} (rank {rank})")?;
         }
         None => println!(rt; "Class: none")?,
     }
+    let strict = retry(&host, &StandardPolicy::CanRetry, error).map_err(fault_text)?;
+    let lenient = retry(&host, &StandardPolicy::CanRetryLenient, error).map_err(fault_text)?;
     let strict = yes_or_no(strict);
     let lenient = yes_or_no(lenient);
     println!(rt; "Try again: {strict}")?;
@@ -96,16 +83,9 @@ fn print_account(rt: &HostRuntime, error: u16) -> anyhow::Result<()> {
 
 // What the building calls answered, one to a line.
 fn print_calls(rt: &HostRuntime) -> anyhow::Result<()> {
-    let mut log = Log::new();
-    build::run(&mut log);
     println!(rt; "As reports in a store of 1024 frames:")?;
-    for step in log.steps() {
-        let name = step.call.name();
-        let free = step.free;
-        match step.refused {
-            None => println!(rt; "  {name:<15} granted, {free} frames free")?,
-            Some(number) => println!(rt; "  {name:<15} refused with {number}, {free} frames free")?,
-        }
+    for step in build::run().steps() {
+        println!(rt; "  {step}")?;
     }
     Ok(())
 }

@@ -147,7 +147,7 @@ module _ (h : Errors) (span : ℕ) (l : Lawful h span) where
       where
         go : (s : ℕ) → nodes_in h (w ∷ q) ≡ s → listing h s n (w ∷ q) ≡ [] → ⊥
         go zero z e = omega arith
-        go (suc s) z e = let x : ◌≡◌ {A = ℕ} 0 1 = cc in omega arith
+        go (suc s) z e = cc
 
     -- a whole flattening owes no source
     pub flat_owes : (m : ℕ) → suc m ≡ length xs → Flat h xs → Sourceless h xs (owed_from xs (length xs)) (length xs)

@@ -1,7 +1,6 @@
 -- The nodes of a flattening that are no sources are the frames of its tree.
-use Rattle.std.proofs.Common.{◌≡◌, ℕ, zero, suc, ◌+◌, ◌<◌, ◌≤◌, Bool, true, false, cond, List, [], ◌∷◌, ◌++◌, map, length, drop, Some, None, Option, sym, refl, ap, ◌∙◌, arith}
-use Rattle.std.proofs.lemmas.List.{at_drop_more, at_drop_all}
-use Rattle.std.proofs.lemmas.Bool.{cond-true, cond-false}
+use Rattle.std.proofs.Common.{◌≡◌, ℕ, zero, suc, ◌+◌, Bool, true, false, cond, not, List, [], ◌∷◌, ◌++◌, map, count_by, Some, None, Option, sym, refl, ap, ◌∙◌, arith}
+use Rattle.std.proofs.lemmas.List.Recursion.{is_count_by}
 use Rattle.model.specs.Host.{Errors}
 use Rattle.trees.specs.Trees.{Forest, empty, tree, Tree, frames}
 use Rattle.nodes.specs.declared.node.Node.{Node}
@@ -11,7 +10,7 @@ use Rattle.nodes.specs.Nodes.{Content, Nodes, natives, sources_of, expand, nodes
 use Rattle.nodes.specs.Flattening.{listed, flattening}
 use Rattle.nodes.specs.Begins.{Flattens}
 use Rattle.nodes.specs.Queue.{queue, weight}
-use Rattle.nodes.specs.Check.{blank, node_at, explicit_count}
+use Rattle.nodes.specs.Check.{explicit_count}
 use Rattle.nodes.proofs.Queue.{weight_append, weight-under, breadth_queue}
 
 -- one for a frame
@@ -84,22 +83,10 @@ explicit-frames h xs t w =
     let all : frames_of (nodes_of h t) ≡ (frames t.children + 1) + 0 = frames-expand h (tree t.error t.place t.children empty) in
     omega arith
 
--- the loop that counts: what is counted and what is left are all
-module _ (xs : List Node) (i n total : ℕ) (all : n + explicit_count (drop i xs) ≡ total) where
-  -- a frame is counted
-  pub explicit-frame : i < length xs → (node_at xs i).native ≡ false → (n + 1) + explicit_count (drop (i + 1) xs) ≡ total
-  explicit-frame b t =
-      let m : explicit_count (drop i xs) ≡ explicit_count (node_at xs i ∷ drop (i + 1) xs) = at_drop_more explicit_count xs i blank b in
-      let c = cond-false (node_at xs i).native (explicit_count (drop (i + 1) xs)) (explicit_count (drop (i + 1) xs) + 1) t in
-      omega arith
+one_more : (b : Bool) (n : ℕ) → cond b n (n + 1) ≡ cond (not b) (1 + n) n
+one_more true n = refl
+one_more false n = omega arith
 
-  -- a source is not
-  pub explicit-source : i < length xs → (node_at xs i).native ≡ true → n + explicit_count (drop (i + 1) xs) ≡ total
-  explicit-source b t =
-      let m : explicit_count (drop i xs) ≡ explicit_count (node_at xs i ∷ drop (i + 1) xs) = at_drop_more explicit_count xs i blank b in
-      let c = cond-true (node_at xs i).native (explicit_count (drop (i + 1) xs)) (explicit_count (drop (i + 1) xs) + 1) t in
-      omega arith
-
-  -- at the end all are counted
-  pub explicit_all : length xs ≤ i → n ≡ total
-  explicit_all b = let m : explicit_count (drop i xs) ≡ 0 = at_drop_all explicit_count xs i b in omega arith
+-- they are those that are not native
+pub explicit_by : (xs : List Node) → explicit_count xs ≡ count_by (λ (x : Node). not x.native) xs
+explicit_by = is_count_by explicit_count (λ (x : Node). not x.native) refl (λ x xs. one_more x.native (explicit_count xs))

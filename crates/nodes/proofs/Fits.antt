@@ -35,6 +35,13 @@ module _ (h : Errors) (xs : List Node) where
   Fits n lo c (as_source j d p ∷ q) = SourceWaits h xs n c j d p × Fits n j (suc j) q
   Fits n lo c (as_frame j e p k ∷ q) = FrameWaits h xs n lo c j e × LiveForest h k × Fits n j c q
 
+  -- what waits at one index, at another
+  source_at : (n m c j d p : ℕ) → j < m → SourceWaits h xs n c j d p → SourceWaits h xs m c j d p
+  source_at n m c j d p b w = record { from = w.from; below = b; before = w.before; source = w.source; place = w.place; live = w.live }
+
+  frame_at : (n m lo c j : ℕ) (e : FrameError) → j < m → FrameWaits h xs n lo c j e → FrameWaits h xs m lo c j e
+  frame_at n m lo c j e b w = record { from = w.from; below = b; before = w.before; frame = w.frame; live = w.live }
+
   -- the source of the node at an index
   abbrev pub src : ℕ → Option ℕ
   src k = error_source h (node_at xs k).error
@@ -49,7 +56,7 @@ module _ (h : Errors) (xs : List Node) where
 
   -- there is a source, and there is none
   pub sourced : (k d : ℕ) → src k ≡ Some d → src k ≡ None → ⊥
-  sourced k d a b = let z : ◌≡◌ {A = ℕ} 0 1 = cc in omega arith
+  sourced k d a b = cc
 
   -- the end of a queue: frames beneath `n` alone
   record Tail (n : ℕ) (q : List Wait) : Type 0 where
@@ -120,7 +127,7 @@ module _ (h : Errors) (xs : List Node) where
             front = as_source j d p ∷ t.front;
             row = t.row;
             is = ap (λ (y : List Wait). as_source j d p ∷ y) t.is;
-            fits = (record { from = f.0.from; below = omega arith; before = f.0.before; source = f.0.source; place = f.0.place; live = f.0.live }, t.fits);
+            fits = (source_at (suc n) n c j _ _ (omega arith) f.0, t.fits);
             live = t.live;
             bare = t.bare;
           }
@@ -140,7 +147,7 @@ module _ (h : Errors) (xs : List Node) where
             front = as_frame j e p k ∷ t.front;
             row = t.row;
             is = ap (λ (y : List Wait). as_frame j e p k ∷ y) t.is;
-            fits = (record { from = f.0.from; below = omega arith; before = f.0.before; frame = f.0.frame; live = f.0.live }, f.1, t.fits);
+            fits = (frame_at (suc n) n _ c j _ (omega arith) f.0, f.1, t.fits);
             live = t.live;
             bare = t.bare;
           }
@@ -189,12 +196,12 @@ module _ (h : Errors) (xs : List Node) where
   fits_append n lo c [] z a le f g = fits_lower (suc n) n lo c n z a le f g
   fits_append n lo c (as_source j d p ∷ q) z a le f g =
       let b = f.0.below in (
-        record { from = f.0.from; below = omega arith; before = f.0.before; source = f.0.source; place = f.0.place; live = f.0.live },
+        source_at n (suc n) c j _ _ (omega arith) f.0,
         fits_append n j (suc j) q z (omega arith) (omega arith) f.1 g,
       )
   fits_append n lo c (as_frame j e p k ∷ q) z a le f g =
       let b = f.0.below in (
-        record { from = f.0.from; below = omega arith; before = f.0.before; frame = f.0.frame; live = f.0.live },
+        frame_at n (suc n) _ c j _ (omega arith) f.0,
         f.1,
         fits_append n j c q z (omega arith) le f.2 g,
       )

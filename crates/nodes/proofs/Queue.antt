@@ -14,6 +14,10 @@ module _ {A : Type 0} where
   weight-under o none = refl
   weight-under o (node v c r) = let h = weight-under o r in omega arith
 
+  pub weight-length : (ws : List (Entry A)) → length ws ≤ weight ws
+  weight-length [] = omega arith
+  weight-length (w ∷ ws) = let h = weight-length ws in omega arith
+
   pub weight-below : (n : ℕ) (ws : List (Entry A)) → length ws + weight (below n ws) ≡ weight ws
   weight-below n [] = refl
   weight-below n (w ∷ ws) =

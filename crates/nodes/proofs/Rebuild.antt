@@ -1,12 +1,12 @@
 -- The listing of a row can be undone, so a flattening has one tree; and a host that gains errors leaves flattenings as they are.
-use Rattle.std.proofs.Common.{◌≡◌, ℕ, zero, suc, ◌+◌, ◌<◌, false, eqb, List, [], ◌∷◌, ◌++◌, map, length, is_some, Some, None, Option, sym, refl, ap, ◌∙◌, subst, ap₂, arith}
+use Rattle.std.proofs.Common.{◌≡◌, ℕ, zero, suc, ◌+◌, ◌<◌, false, eqb, List, [], ◌∷◌, ◌++◌, map, length, is_some, Some, None, Option, sym, refl, ap, ◌∙◌, ap₂, arith}
 use Rattle.std.proofs.lemmas.List.{append-nil, length-map}
 use Rattle.std.proofs.lemmas.Bool.{eq-eqb, ne_eqb, cond-true, cond-false}
 use Rattle.vocabulary.specs.declared.frame_error.FrameError.{FrameError}
 use Rattle.vocabulary.specs.declared.frame_error.FrameError.TheVariants.{Host}
 use Rattle.model.specs.Host.{Error, Errors, Live, Lawful, Extends}
 use Rattle.model.specs.Sources.{source_of, chain_up_to, bound, chain_from, LiveOrNone}
-use Rattle.model.proofs.Sources.{live-told, source-live}
+use Rattle.model.proofs.Sources.{live-told}
 use Rattle.trees.specs.Trees.{Forest, empty, tree, Tree, only}
 use Rattle.nodes.specs.declared.node.Node.{Node}
 use Rattle.nodes.specs.Rows.{Rows, none, node, count, ◌beside◌}
@@ -16,6 +16,7 @@ use Rattle.nodes.specs.Flattening.{listed, flattening, unlisted, first_tree, tre
 use Rattle.nodes.specs.Begins.{Flattens}
 use Rattle.nodes.specs.Queue.{queue, weight}
 use Rattle.nodes.proofs.Queue.{weight_append, weight-under, breadth_queue}
+use Rattle.nodes.proofs.Waiting.{source_lives}
 
 -- a parent, where there is one, stands before `n`
 abbrev pub Before : ℕ → Option ℕ → Type 0
@@ -172,15 +173,11 @@ module _ (h h' : Errors) (more : Extends h h') where
     chain-gained zero o v = refl
     chain-gained (suc limit) None v = refl
     chain-gained (suc limit) (Some e) v =
-        let m = live-told (h e) v in
-        let next : LiveOrNone h (source_of (h e)) = subst (λ (x : Option Error). LiveOrNone h (source_of x)) (sym m.1) (source-live h span l e m.0 m.1) in
-        ap (λ (x : Option Error). e ∷ chain_up_to h' limit (source_of x)) (told_alike e v) ∙ ap (λ (xs : List ℕ). e ∷ xs) (chain-gained limit (source_of (h e)) next)
+        ap (λ (x : Option Error). e ∷ chain_up_to h' limit (source_of x)) (told_alike e v) ∙ ap (λ (xs : List ℕ). e ∷ xs) (chain-gained limit (source_of (h e)) (source_lives h span l e v))
 
     sources-gained : (e : FrameError) → LiveError h e → sources_of h' e ≡ sources_of h e
     sources-gained (Host e) v =
-        let m = live-told (h e) v in
-        let next : LiveOrNone h (source_of (h e)) = subst (λ (x : Option Error). LiveOrNone h (source_of x)) (sym m.1) (source-live h span l e m.0 m.1) in
-        ap (λ (x : Option Error). chain_from h' (source_of x)) (told_alike e v) ∙ chain-gained (bound (source_of (h e))) (source_of (h e)) next
+        ap (λ (x : Option Error). chain_from h' (source_of x)) (told_alike e v) ∙ chain-gained (bound (source_of (h e))) (source_of (h e)) (source_lives h span l e v)
 
     expand-gained : (f : Forest) → LiveForest h f → expand h' f ≡ expand h f
     expand-gained empty v = refl

@@ -199,7 +199,7 @@ module _ (h : Errors) (xs : List Node) where
         }
     pass (suc m) n f [] rest fit last low e g is =
         let none : [] ≡ node_at xs n ∷ (part xs (suc n) m ++ rest) = sym (listing_none h span l f n) ∙ is ∙ ap (λ (y : List Node). y ++ rest) (part_more n m (omega arith)) in
-        absurd (let z : ◌≡◌ {A = ℕ} 0 1 = cc in omega arith)
+        absurd (cc)
     pass (suc m) n zero (as_source j d p ∷ q) rest fit last low e g is = absurd (omega arith)
     pass (suc m) n zero (as_frame j u p k ∷ q) rest fit last low e g is = absurd (omega arith)
     pass (suc m) n (suc f) (as_source j d p ∷ q) rest fit last low e g is =

@@ -61,7 +61,8 @@ abbrev pub nodes_in : Errors → List Wait → ℕ
 nodes_in h q = weight (map (entry h) q)
 
 module _ (h : Errors) (span : ℕ) (l : Lawful h span) where
-  source_lives : (e : ℕ) → Live h e → LiveOrNone h (source_of (h e))
+  -- what is told of a live error has a live source, if any
+  pub source_lives : (e : ℕ) → Live h e → LiveOrNone h (source_of (h e))
   source_lives e v = let m = live-told (h e) v in subst (λ (o : Option Error). LiveOrNone h (source_of o)) (sym m.1) (source-live h span l e m.0 m.1)
 
   -- the source of a live error is live

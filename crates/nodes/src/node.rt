@@ -34,9 +34,10 @@ pub struct Node {
     pub error: FrameError,
     // the place of the frame that owns the node
     pub place: u32,
-    // whether it is a source of its parent's error, and no frame of its own
+    // whether it is a source of its parent's error, and no frame of its own. A flag beside `parent`, since a caller's list may
+    // hold any pair of both, and the check tells where that is no flattening
     pub native: bool,
-    // the index of its parent, none for the root
+    // the index of its parent, none for the root; an index, since lists are lent and fixed memory
     pub parent: Option<usize>,
     pub note: Note,
 }

@@ -4,10 +4,10 @@ use Rattle.std.proofs.lemmas.List.{drop_more, drop_all}
 use Rattle.std.proofs.lemmas.Bool.{eqb-true, ne_eqb}
 use Rattle.nodes.specs.Rows.{Rows, none, node}
 use Rattle.nodes.specs.Breadth.{Item, Entry, under, breadth_first, is_parent, children_at, others, rebuild}
+use Rattle.nodes.proofs.Rebuild.{Before, before_more, undo_row}
 use Rattle.readings.specs.Folds.{CommutativeMonoid, gathered}
 use Rattle.readings.specs.Back.{same_parent, added_to, from_back}
 use Rattle.readings.proofs.Folds.{entry_value}
-use Rattle.readings.proofs.Rebuilt.{Before, before_more, rebuild_breadth}
 
 -- the value of the first entry, or another
 abbrev first_value : {A : Type 0} → A → List (Entry A) → A
@@ -41,7 +41,7 @@ module _ {A M : Type 0} (op : M → M → M) (unit : M) (f : A → M → M) wher
 
   -- a parent that stands before is not `n`
   apart : (n : ℕ) (o p : Option ℕ) → Before n p → is_parent n o ≡ true → same_parent o p ≡ false
-  apart n None p b q = absurd (let z : ◌≡◌ {A = ℕ} 0 1 = cc in omega arith)
+  apart n None p b q = absurd (cc)
   apart n (Some i) None b q = refl
   apart n (Some i) (Some j) b q = let e = eqb-true i n q in ne_eqb i j (λ z. omega arith)
 
@@ -79,10 +79,10 @@ module _ {A M : Type 0} (op : M → M → M) (unit : M) (f : A → M → M) wher
 
     -- the fold of the row
     pub back_breadth : (r : Rows A) → from_back op unit f 0 (breadth_first r) None ≡ gathered op unit f r
-    back_breadth r = back_rebuild 0 (breadth_first r) None tt ∙ ap (at_parent None) (rebuild_breadth r) ∙ roots_are r
+    back_breadth r = back_rebuild 0 (breadth_first r) None tt ∙ ap (at_parent None) (undo_row r) ∙ roots_are r
 
     -- under one root its children are gathered
     pub back_root : (v : A) (k : Rows A) (x : Item A) (xs : List (Item A)) → breadth_first (node v k none) ≡ x ∷ xs → (x.value ≡ v) × (from_back op unit f 1 xs (Some 0) ≡ gathered op unit f k)
     back_root v k x xs q =
-        let e : rebuild 0 (x ∷ xs) ≡ under None (node v k none) = sym (ap (rebuild 0) q) ∙ rebuild_breadth (node v k none) in
+        let e : rebuild 0 (x ∷ xs) ≡ under None (node v k none) = sym (ap (rebuild 0) q) ∙ undo_row (node v k none) in
         (ap (first_value v) e, back_rebuild 1 xs (Some 0) (omega arith) ∙ sym (children_are 0 (rebuild 1 xs)) ∙ ap (λ (ws : List (Entry A)). gathered op unit f (first_children ws)) e)

@@ -226,15 +226,11 @@ module _ (h : Errors) where
         (gathered_beside ◌&&◌ true and_monoid (λ (v : Content) (b : Bool). live_source v && b) (natives p (sources_of h e)) (expand h c) ∙ and_from _ _ (sources-live p e) (expand-live c))
         (expand-live r)
 
-    values_folded : (xs : List (Item Content)) → folded ◌&&◌ true live_source (map (λ (x : Item Content). x.value) xs) ≡ folded ◌&&◌ true (λ (x : Item Content). live_source x.value) xs
-    values_folded [] = refl
-    values_folded (x ∷ xs) = ap (λ (b : Bool). live_source x.value && b) (values_folded xs)
-
     -- the first error of a report that is not live is that of a frame
     pub first_not_live_lem : (t : Tree) → first_not_live h (map (λ (v : Content). v.error) (map (λ (x : Item Content). x.value) (breadth_first (nodes_of h t)))) ≡ first_not_live h (map (λ (x : FrameContent). x.error) (map (λ (x : Item FrameContent). x.value) (frame_list t)))
     first_not_live_lem t =
         first_frames (map (λ (x : Item Content). x.value) (breadth_first (nodes_of h t)))
-        (values_folded (breadth_first (nodes_of h t)) ∙ breadth_folded ◌&&◌ true and_monoid live_source (nodes_of h t) ∙ expand-live (only t))
+        (folded_map ◌&&◌ true live_source (λ (x : Item Content). x.value) (breadth_first (nodes_of h t)) ∙ breadth_folded ◌&&◌ true and_monoid live_source (nodes_of h t) ∙ expand-live (only t))
         ∙ ap (λ (fs : List FrameContent). first_not_live h (map (λ (x : FrameContent). x.error) fs)) (frames-listed t)
 
 -- no error that is not live is found where all are live, and only there
@@ -250,7 +246,7 @@ none-live h (Host e ∷ es) q = go (is_some (h e)) q (none-live h es)
   where
     go : (b : Bool) → cond b (first_not_live h es) (Some e) ≡ None → (first_not_live h es ≡ None → folded ◌&&◌ true (live_in h) es ≡ true) → (b && folded ◌&&◌ true (live_in h) es) ≡ true
     go true q r = r q
-    go false q r = absurd (let z : ◌≡◌ {A = ℕ} 0 1 = cc in omega arith)
+    go false q r = absurd (cc)
 
 live_error : (h : Errors) (e : FrameError) → LiveError h e → live_in h e ≡ true
 live_error h (Host e) v = v

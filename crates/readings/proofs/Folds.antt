@@ -1,5 +1,5 @@
 -- A fold over the nodes of a row does not depend on the order in which they are listed.
-use Rattle.std.proofs.Common.{◌≡◌, ℕ, zero, suc, ◌+◌, ◌≤◌, List, [], ◌∷◌, ◌++◌, length, Some, None, Option, sym, refl, ap, ◌∙◌, arith}
+use Rattle.std.proofs.Common.{◌≡◌, ℕ, zero, suc, ◌+◌, ◌≤◌, List, [], ◌∷◌, ◌++◌, Some, None, Option, sym, refl, ap, ◌∙◌, arith}
 use Rattle.nodes.specs.Rows.{Rows, none, node, ◌beside◌, count}
 use Rattle.nodes.specs.Breadth.{Item, Entry, under, breadth_first}
 use Rattle.nodes.specs.Queue.{queue, weight}
@@ -60,19 +60,3 @@ module _ {A M : Type 0} (op : M → M → M) (unit : M) (c : CommutativeMonoid o
       ap (folded op unit (λ (x : Item A). f x.value)) (breadth_queue r)
       ∙ queue-folded (count r) 0 (under None r) (omega arith)
       ∙ under-gathered op unit (λ v m. op (f v) m) None r
-
--- sums
-plus_monoid : CommutativeMonoid ◌+◌ 0
-plus_monoid = record { unit_left = λ a. omega arith; commutes = λ a b. omega arith; associates = λ a b d. omega arith }
-
-length-folded : {A : Type 0} (xs : List A) → length xs ≡ folded ◌+◌ 0 (λ (x : A). 1) xs
-length-folded [] = refl
-length-folded (x ∷ xs) = let h = length-folded xs in omega arith
-
-count-summed : {A : Type 0} (r : Rows A) → summed ◌+◌ 0 (λ (x : A). 1) r ≡ count r
-count-summed none = refl
-count-summed (node v c r) = let a = count-summed c in let b = count-summed r in omega arith
-
--- a list has as many items as the row has nodes
-pub breadth_length : {A : Type 0} (r : Rows A) → length (breadth_first r) ≡ count r
-breadth_length {A} r = length-folded (breadth_first r) ∙ breadth_folded ◌+◌ 0 plus_monoid (λ (x : A). 1) r ∙ count-summed r

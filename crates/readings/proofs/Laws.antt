@@ -1,5 +1,6 @@
 -- The laws of a report's readings.
-use Rattle.std.proofs.Common.{◌≡◌, Bool, false, not, ◌&&◌, ◌||◌, List, [], ◌∷◌, map, Some, None, sym, refl, ap, ◌∙◌, ap₂, inl, inr}
+use Rattle.std.proofs.Common.{Bool, false, not, ◌&&◌, ◌||◌, Some, None, sym, ap, ◌∙◌, ap₂, inl, inr}
+use Rattle.std.proofs.lemmas.Simd.{map-map}
 use Rattle.classes.specs.Class.{lesser}
 use Rattle.vocabulary.specs.declared.frame_error.FrameError.{FrameError}
 use Rattle.vocabulary.specs.declared.policy.Pair.{Pair}
@@ -80,18 +81,14 @@ cause_at_root h t x xs q =
 pub frames_in_order : FramesInOrder
 frames_in_order h t = frames-listed h t
 
-map_twice : {A B C : Type 0} (f : B → C) (g : A → B) (xs : List A) → map f (map g xs) ≡ map (λ (x : A). f (g x)) xs
-map_twice f g [] = refl
-map_twice f g (x ∷ xs) = ap (λ (z : List _). f (g x) ∷ z) (map_twice f g xs)
-
 pub first_not_live_by_frames : FirstNotLiveByFrames
 unfolding flattening
 first_not_live_by_frames h span l t =
     ap (first_not_live h)
-    (map_twice (λ (x : Node). x.error) listed (breadth_first (nodes_of h t))
-    ∙ sym (map_twice (λ (v : Content). v.error) (λ (x : Item Content). x.value) (breadth_first (nodes_of h t))))
+    (map-map (λ (x : Node). x.error) listed (breadth_first (nodes_of h t))
+    ∙ sym (map-map (λ (v : Content). v.error) (λ (x : Item Content). x.value) (breadth_first (nodes_of h t))))
     ∙ first_not_live_lem h span l t
-    ∙ ap (first_not_live h) (map_twice (λ (x : FrameContent). x.error) (λ (x : Item FrameContent). x.value) (frame_list t))
+    ∙ ap (first_not_live h) (map-map (λ (x : FrameContent). x.error) (λ (x : Item FrameContent). x.value) (frame_list t))
 
 pub live_by_frames : LiveByFrames
 live_by_frames h t = (listed-live h t, tree_live h t)

@@ -16,7 +16,8 @@ use Rattle.nodes.specs.Flattening.{listed, flattening}
 use Rattle.readings.specs.Folds.{CommutativeMonoid, folded, summed}
 use Rattle.readings.specs.Frames.{FrameContent, frame_rows, frame_list, over_frames}
 use Rattle.readings.specs.Readings.{pair_in, errors_of, report_pairs, frame_pairs}
-use Rattle.readings.proofs.Folds.{right, gathered_beside, breadth_folded, breadth_length}
+use Rattle.nodes.proofs.Rebuild.{breadth_length}
+use Rattle.readings.proofs.Folds.{right, gathered_beside, breadth_folded}
 
 -- an error that is not live has no chain beneath it
 chain-not_live : (h : Errors) (e : ℕ) → h e ≡ None → chain h e ≡ e ∷ sources h e
@@ -98,7 +99,7 @@ module _ {M : Type 0} (op : M → M → M) (unit : M) (c : CommutativeMonoid op 
     pub pairs_folded : (t : Tree) → folded op unit k (report_pairs h t) ≡ folded op unit (λ (x : Item FrameContent). folded op unit k (frame_pairs h x.value.error)) (frame_list t)
     pairs_folded t = pairs_over t ∙ frames-folded (λ (e : FrameError). folded op unit k (frame_pairs h e)) (only t)
 
-count-frames : (w : Forest) → count (frame_rows w) ≡ frames w
+pub count-frames : (w : Forest) → count (frame_rows w) ≡ frames w
 count-frames empty = refl
 count-frames (tree e p c r) = let a = count-frames c in let b = count-frames r in omega arith
 

@@ -5,29 +5,21 @@
 ghost use Rattle.readings.specs.Laws.{CauseStands, CauseOnce, ClassOverFrames, AnyOverFrames, ClassByFrames, AnyByFrames, VerdictByFrames, CauseFromBack, CauseAtRoot, FramesInOrder, FirstNotLiveByFrames, LiveByFrames};
 
 // The fold over a report's nodes gives its probable cause, and there is no other.
-pub fn causes() -> u8
+pub fn causes()
     ensures { (CauseStands) × (CauseOnce) }
-{
-    0
-}
+{}
 
 // The probable cause by the frames alone, from the last to the first.
-pub fn causes_by_frames() -> u8
+pub fn causes_by_frames()
     ensures { (CauseFromBack) × (CauseAtRoot) }
-{
-    0
-}
+{}
 
 // Class and verdict of a report are those of its frames, each with the sources beneath its error.
-pub fn verdicts_by_frames() -> u8
+pub fn verdicts_by_frames()
     ensures { (ClassOverFrames × AnyOverFrames) × (ClassByFrames × AnyByFrames × VerdictByFrames) }
-{
-    0
-}
+{}
 
 // The frames keep their order where the sources are left out, and the first error that is not live is that of a frame.
-pub fn refusals_by_frames() -> u8
+pub fn refusals_by_frames()
     ensures { FramesInOrder × FirstNotLiveByFrames × LiveByFrames }
-{
-    0
-}
+{}

@@ -1,11 +1,11 @@
 -- The first reports of a row put first under a report.
 use Rattle.std.proofs.Common.{◌≡◌, ℕ, ◌+◌, ◌<◌, ◌≤◌, true, eqb, List, [], ◌∷◌, ◌++◌, reverse, length, take, drop, is_some, Some, None, Option, sym, refl, ap, ◌∙◌, subst, ap₂, arith}
 use Rattle.std.specs.Map.{update}
-use Rattle.std.proofs.lemmas.List.{drop-drop, drop_more, length-drop, reverse-append, take_more}
+use Rattle.std.proofs.Math.Seq.{take-add}
+use Rattle.std.proofs.lemmas.List.{drop-drop, length-drop, reverse-append}
 use Rattle.std.proofs.lemmas.Map.{update_here, update_apart}
-use Rattle.vocabulary.specs.declared.frame_error.FrameError.TheVariants.{Host}
 use Rattle.trees.specs.Listings.{first_of, opened, rest_of}
-use Rattle.trees.specs.Trees.{Forest, empty, tree, Tree, ◌then◌, leaf, Listing, forest, first_root}
+use Rattle.trees.specs.Trees.{Forest, empty, tree, Tree, ◌then◌, Listing, forest, first_root}
 use Rattle.layout.specs.declared.frame.Frame.{Frame}
 use Rattle.layout.specs.Reports.{Means, reports, rows}
 use Rattle.rebuilding.specs.Steps.{adopting, with_first, WithReport}
@@ -21,11 +21,6 @@ adopting_more t a b =
     ap (λ (f : Forest). record { error = t.error; place = t.place; children = f })
     (sym (then_assoc (forest (reverse b)) (forest (reverse a)) t.children)
     ∙ ap (λ (f : Forest). f then t.children) (sym (forest_append (reverse b) (reverse a)) ∙ ap forest (sym (reverse-append a b))))
-
-take-one : (row : Listing) (i : ℕ) → i < length row → take i row ++ take 1 (drop i row) ≡ take (i + 1) row
-take-one row i lt =
-    let none : ℕ × Tree = (0, leaf (Host 0) 0) in
-    ap (λ (r : Listing). take i row ++ take 1 r) (drop_more row i none lt) ∙ sym (take_more row i none lt)
 
 module _ (before fs : List Frame) (x : ℕ) (t : Tree) where
   -- one report, the first of the row
@@ -126,8 +121,8 @@ module _ (before : List Frame) (x : ℕ) (t : Tree) (row : Listing) where
   abbrev pub Adopting : List Frame → Option ℕ → ℕ → Type 0
   Adopting fs head i = WithReport before fs head (drop i row) x (adopting t (take i row))
 
-  pub adopting-one : (fs : List Frame) (next : Option ℕ) (i count : ℕ) → i < count → count ≤ length row → WithReport before fs next (drop 1 (drop i row)) x (adopting (adopting t (take i row)) (take 1 (drop i row)))
+  pub adopting-one : (fs : List Frame) (next : Option ℕ) (i : ℕ) → WithReport before fs next (drop 1 (drop i row)) x (adopting (adopting t (take i row)) (take 1 (drop i row)))
       → Adopting fs next (i + 1)
-  adopting-one fs next i count lt le w =
+  adopting-one fs next i w =
       subst (λ (r : Listing). WithReport before fs next r x (adopting t (take (i + 1) row))) (drop-drop 1 i row)
-      (subst (λ (u : Tree). WithReport before fs next (drop 1 (drop i row)) x u) (adopting_more t (take i row) (take 1 (drop i row)) ∙ ap (adopting t) (take-one row i (omega arith))) w)
+      (subst (λ (u : Tree). WithReport before fs next (drop 1 (drop i row)) x u) (adopting_more t (take i row) (take 1 (drop i row)) ∙ ap (adopting t) (sym (take-add i 1 row))) w)

@@ -1,16 +1,17 @@
 -- A report put at the end of a row, a frame begun beside a row, and the last report taken out of one.
-use Rattle.std.proofs.Common.{◌≡◌, ℕ, true, false, cond, eqb, List, [], ◌∷◌, ◌++◌, is_some, Some, None, Option, sym, refl, ap, ◌∙◌, subst, ap₂, ⊎_elim, arith}
+use Rattle.std.proofs.Common.{◌≡◌, ℕ, true, false, cond, eqb, List, [], ◌∷◌, ◌++◌, is_some, Some, None, Option, sym, refl, ap, ◌∙◌, subst, ap₂, ⊎_elim}
 use Rattle.std.specs.Map.{update}
 use Rattle.std.proofs.lemmas.Map.{update_here, update_apart}
 use Rattle.std.proofs.lemmas.Bool.{cases_eq}
 use Rattle.vocabulary.specs.declared.frame_error.FrameError.{FrameError}
-use Rattle.trees.specs.Listings.{alone, first_of, joined, opened, rest_of}
+use Rattle.trees.specs.Listings.{alone, first_of, opened, rest_of, without}
 use Rattle.trees.specs.Trees.{Tree, leaf, Listing, among, first_root, list_of}
 use Rattle.layout.specs.declared.frame.Frame.{Frame}
 use Rattle.layout.specs.Reports.{Means, reports, rows}
-use Rattle.layout.specs.Calls.{BeginAnswer, Begun}
+use Rattle.layout.specs.Calls.{BeginAnswer, Begun, taken, with_last}
+use Rattle.layout.proofs.Split.{opened_same}
 use Rattle.rebuilding.specs.Steps.{New, WithRow, WithReport, Added, Built}
-use Rattle.rebuilding.proofs.Beside.{updated, closed, among_last, no_row, first_new, popped, row_is}
+use Rattle.rebuilding.proofs.Beside.{closed, among_last, no_row, first_new, popped, row_is}
 
 -- the report beside a row
 module _ (before fs : List Frame) (head : Option ℕ) (row : Listing) (x : ℕ) (t : Tree) (w : WithReport before fs head row x t) where
@@ -20,62 +21,47 @@ module _ (before fs : List Frame) (head : Option ℕ) (row : Listing) (x : ℕ) 
   pub report_there : is_some (reports fs x) ≡ true
   report_there = ap is_some report_is
 
-  without : (j : ℕ) → update eqb (reports fs) x None j ≡ reports before j
-  without = closed (reports before) (reports fs) x (Some t) w.root.fresh.report w.means.reports
+  without_report : (j : ℕ) → update eqb (reports fs) x None j ≡ reports before j
+  without_report = closed (reports before) (reports fs) x (Some t) w.root.fresh.report w.means.reports
 
   new_last : (n : ℕ) → among n (row ++ (x, t) ∷ []) ≡ true → New before n
   new_last n a = ⊎_elim (w.new n) (λ e. subst (New before) (sym e) w.root) (among_last n x t row a)
 
-module _ (before fs after : List Frame) (x : ℕ) (t : Tree) where
-  -- the report becomes a row
-  pub row_made : (head : Option ℕ) (row : Listing) → head ≡ None → WithReport before fs head row x t → Means after (update eqb (reports fs) x None) (update eqb (rows fs) x (alone x (reports fs x)))
-      → Added before after row t x
-  row_made head [] e w m = record {
+-- a row with a report more at its end, and the rows without it
+row_taken : (before fs : List Frame) (head : Option ℕ) (row : Listing) → head ≡ first_root row → ((n : ℕ) → among n row ≡ true → New before n) → ((j : ℕ) → rows fs j ≡ opened (rows before) row j)
+    → taken fs head ≡ row
+row_taken before fs head [] e new m = ap (taken fs) e
+row_taken before fs head (y ∷ ys) e new m = ap (taken fs) e ∙ ap list_of (row_is before y ys new fs fs m)
+
+others : (before fs : List Frame) (head : Option ℕ) (row : Listing) → head ≡ first_root row → ((n : ℕ) → among n row ≡ true → New before n) → ((j : ℕ) → rows fs j ≡ opened (rows before) row j)
+    → (j : ℕ) → without (rows fs) head j ≡ rows before j
+others before fs head [] e new m j = ap (λ (o : Option ℕ). without (rows fs) o j) e ∙ m j
+others before fs head (y ∷ ys) e new m j =
+    ap (λ (o : Option ℕ). without (rows fs) o j) e ∙ closed (rows before) (rows fs) y.0 (Some (y ∷ ys)) (no_row before y.0 (first_new before y ys new).fresh) m j
+
+module _ (before fs after : List Frame) (x : ℕ) (t : Tree) (head : Option ℕ) (row : Listing) (w : WithReport before fs head row x t) where
+  longer : with_last fs head x ≡ row ++ (x, t) ∷ []
+  longer = ap₂ (λ (xs ys : Listing). xs ++ ys) (row_taken before fs head row w.first w.new w.means.rows) (ap (λ (o : Option Tree). list_of (alone x o)) (report_is before fs head row x t w))
+
+  pub appended : (root : ℕ) → Some root ≡ first_root (with_last fs head x)
+      → Means after (update eqb (reports fs) x None) (opened (without (rows fs) head) (with_last fs head x)) → Added before after row t (Some root)
+  appended root first m = record {
     root = x;
     held = record {
-      first = refl;
-      new = new_last before fs head [] x t w;
+      first = first ∙ ap first_root longer;
+      new = new_last before fs head row x t w;
       means = record {
-        reports = λ j. m.reports j ∙ without before fs head [] x t w j;
-        rows = λ j. m.rows j ∙ ap₂ (λ (a b : Option Listing). cond (eqb x j) a b) (ap (alone x) (report_is before fs head [] x t w)) (w.means.rows j);
+        reports = λ j. m.reports j ∙ without_report before fs head row x t w j;
+        rows = λ j. m.rows j ∙ ap (λ (xs : Listing). opened (without (rows fs) head) xs j) longer
+            ∙ opened_same (without (rows fs) head) (rows before) (row ++ (x, t) ∷ []) j (others before fs head row w.first w.new w.means.rows);
       };
     };
   }
-  row_made head (y ∷ ys) e w m = absurd (let a : None ≡ Some y.0 = sym e ∙ w.first in let z : ◌≡◌ {A = ℕ} 0 1 = cc in omega arith)
-
-  -- or the last of the row
-  module _ (y : ℕ × Tree) (ys : Listing) (w : WithReport before fs (Some y.0) (y ∷ ys) x t) where
-    longer : joined (rows fs y.0) (alone x (reports fs x)) ≡ Some ((y ∷ ys) ++ (x, t) ∷ [])
-    longer = ap₂ (λ (a : Option Listing) (b : Option Tree). joined a (alone x b)) (row_is before y ys w.new fs fs w.means.rows) (report_is before fs (Some y.0) (y ∷ ys) x t w)
-
-    last : Means after (update eqb (reports fs) x None) (update eqb (rows fs) y.0 (joined (rows fs y.0) (alone x (reports fs x)))) → Added before after (y ∷ ys) t y.0
-    last m = record {
-      root = x;
-      held = record {
-        first = refl;
-        new = new_last before fs (Some y.0) (y ∷ ys) x t w;
-        means = record {
-          reports = λ j. m.reports j ∙ without before fs (Some y.0) (y ∷ ys) x t w j;
-          rows = λ j. m.rows j ∙ updated (rows before) y.0 (Some ((y ∷ ys) ++ (x, t) ∷ [])) j (update eqb (rows fs) y.0 (joined (rows fs y.0) (alone x (reports fs x))) j)
-              (λ e. ap (update eqb (rows fs) y.0 _) e ∙ update_here (rows fs) y.0 _ ∙ longer)
-              (λ n. update_apart (rows fs) y.0 _ j n ∙ w.means.rows j ∙ update_apart (rows before) y.0 (Some (y ∷ ys)) j n);
-        };
-      };
-    }
-
-  pub pushed : (head : Option ℕ) (row : Listing) (first : ℕ) → head ≡ Some first → WithReport before fs head row x t
-      → Means after (update eqb (reports fs) x None) (update eqb (rows fs) first (joined (rows fs first) (alone x (reports fs x)))) → Added before after row t first
-  pushed head [] first e w m = absurd (let a : None ≡ Some first = sym w.first ∙ e in let z : ◌≡◌ {A = ℕ} 0 1 = cc in omega arith)
-  pushed head (y ∷ ys) first e w m =
-      let same : first ≡ y.0 = (let a : Some first ≡ Some y.0 = sym e ∙ w.first in cc) in
-      subst (Added before after (y ∷ ys) t) (sym same)
-      (last y ys (subst (λ (o : Option ℕ). WithReport before fs o (y ∷ ys) x t) w.first w)
-      (subst (λ (n : ℕ). Means after (update eqb (reports fs) x None) (update eqb (rows fs) n (joined (rows fs n) (alone x (reports fs x))))) same m))
 
 -- the row of a first root is there
 pub known_row : (before fs : List Frame) (head : Option ℕ) (row : Listing) (first : ℕ) → head ≡ Some first → head ≡ first_root row → ((j : ℕ) → rows fs j ≡ opened (rows before) row j)
     → rows fs first ≡ Some row
-known_row before fs head [] first e q m = absurd (let a : None ≡ Some first = sym q ∙ e in let z : ◌≡◌ {A = ℕ} 0 1 = cc in omega arith)
+known_row before fs head [] first e q m = absurd (let a : None ≡ Some first = sym q ∙ e in cc)
 known_row before fs head (y ∷ ys) first e q m =
     let same : first ≡ y.0 = (let a : Some first ≡ Some y.0 = sym e ∙ q in cc) in
     ap (rows fs) same ∙ m y.0 ∙ update_here (rows before) y.0 (Some (y ∷ ys))

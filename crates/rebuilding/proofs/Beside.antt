@@ -1,16 +1,15 @@
 -- Frames with one row or one report more than before.
-use Rattle.std.proofs.Common.{◌≡◌, ℕ, Bool, true, false, cond, eqb, ◌⊎◌, List, [], ◌∷◌, ◌++◌, get_or, is_some, Some, None, Option, sym, refl, ap, ◌∙◌, inl, inr, ⊎_elim}
+use Rattle.std.proofs.Common.{◌≡◌, ℕ, Bool, true, false, cond, eqb, ◌⊎◌, List, [], ◌∷◌, ◌++◌, Some, None, Option, sym, refl, ap, ◌∙◌, inl, inr, ⊎_elim}
 use Rattle.std.specs.Map.{update}
 use Rattle.std.proofs.lemmas.Map.{update_here, update_apart}
 use Rattle.std.proofs.lemmas.Bool.{cases_Bool, cases_eq, eq-eqb, eqb-true, ne_eqb, cond-true, cond-false, false≢true, true≢false}
 use Rattle.trees.specs.Listings.{first_of, opened, rest_of}
 use Rattle.trees.specs.Trees.{Tree, Listing, among, first_root, list_of}
 use Rattle.layout.specs.declared.frame.Frame.{Frame}
-use Rattle.layout.specs.declared.frame.Role.{Role}
-use Rattle.layout.specs.declared.frame.Role.TheVariants.{Linked, Report, Row}
-use Rattle.layout.specs.Layout.{blank}
-use Rattle.layout.specs.Reports.{Means, reports, rows, read_row, if_row}
+use Rattle.layout.specs.Reports.{Means, reports, rows}
 use Rattle.layout.specs.Calls.{Fresh}
+use Rattle.layout.proofs.Appends.{Begins, begins}
+use Rattle.layout.proofs.Split.{opened_same}
 use Rattle.rebuilding.specs.Steps.{New}
 
 module _ {A : Type 0} where
@@ -29,11 +28,6 @@ module _ {A : Type 0} where
       (λ e. ap (update eqb f' k None) e ∙ update_here f' k None ∙ sym none ∙ ap f (sym e))
       (λ n. update_apart f' k None j n ∙ is j ∙ update_apart f k v j n)
       (cases_eq j k)
-
-  -- a value that is there
-  pub there : (o : Option A) → is_some o ≡ true → (x : A) × (o ≡ Some x)
-  there None s = absurd (false≢true s)
-  there (Some x) s = (x, refl)
 
 -- a number in a listing that it begins
 pub among_first : (x : ℕ × Tree) (xs : Listing) → among x.0 (x ∷ xs) ≡ true
@@ -66,21 +60,6 @@ among_last n x t (y ∷ ys) a =
     (λ q. ⊎_elim (λ m. inl (among_more n y ys m)) (λ e. inr e) (among_last n x t ys (sym (cond-false (eqb n y.0) true (among n (ys ++ (x, t) ∷ [])) q) ∙ a)))
     (cases_Bool (eqb n y.0))
 
--- a row begins with the root by which it is known
-abbrev Begins : ℕ → Option Listing → Type 0
-Begins n None = Unit {0}
-Begins n (Some []) = ⊥
-Begins n (Some (x ∷ xs)) = x.0 ≡ n
-
-begins : (fs : List Frame) (n : ℕ) → Begins n (rows fs n)
-unfolding rows read_row
-begins fs n = go (get_or fs n blank).role
-  where
-    go : (r : Role) → Begins n (if_row r (read_row 1024 fs (Some n)))
-    go Linked = tt
-    go Report = tt
-    go (Row last size) = refl
-
 -- a number that is no root is no row's first
 pub no_row : (fs : List Frame) (n : ℕ) → Fresh fs n → rows fs n ≡ None
 no_row fs n f = go (rows fs n) refl (begins fs n)
@@ -89,10 +68,6 @@ no_row fs n f = go (rows fs n) refl (begins fs n)
     go None q b = q
     go (Some []) q b = absurd b
     go (Some (x ∷ xs)) q b = absurd (not_first n x xs (ap (λ (o : Option Listing). among n (list_of o)) (sym q) ∙ f.row n) (sym b))
-
--- the row of a listing that begins with `k`
-opened_first : (h : ℕ → Option Listing) (x : ℕ × Tree) (xs : Listing) (k : ℕ) → k ≡ x.0 → opened h (x ∷ xs) k ≡ Some (x ∷ xs)
-opened_first h x xs k e = ap (opened h (x ∷ xs)) e ∙ update_here h x.0 (Some (x ∷ xs))
 
 -- where the row begins
 module _ (before : List Frame) (x : ℕ × Tree) (xs : Listing) (new : (n : ℕ) → among n (x ∷ xs) ≡ true → New before n) where
@@ -108,11 +83,7 @@ module _ (before : List Frame) (x : ℕ × Tree) (xs : Listing) (new : (n : ℕ)
     row_is = m x.0 ∙ update_here (rows before) x.0 (Some (x ∷ xs))
 
     rest_is : (j : ℕ) → opened (update eqb (rows fs) x.0 None) xs j ≡ opened (rows before) xs j
-    rest_is = go xs (closed (rows before) (rows fs) x.0 (Some (x ∷ xs)) (no_row before x.0 first_new.fresh) m)
-      where
-        go : (ys : Listing) → ((j : ℕ) → update eqb (rows fs) x.0 None j ≡ rows before j) → (j : ℕ) → opened (update eqb (rows fs) x.0 None) ys j ≡ opened (rows before) ys j
-        go [] c j = c j
-        go (y ∷ ys) c j = ap (λ (o : Option Listing). cond (eqb y.0 j) (Some (y ∷ ys)) o) (c j)
+    rest_is j = opened_same (update eqb (rows fs) x.0 None) (rows before) xs j (closed (rows before) (rows fs) x.0 (Some (x ∷ xs)) (no_row before x.0 first_new.fresh) m)
 
     pub popped : Means after (update eqb (reports fs) x.0 (first_of (rows fs x.0))) (opened (update eqb (rows fs) x.0 None) (rest_of (rows fs x.0)))
         → Means after (update eqb (reports fs) x.0 (Some x.1)) (opened (rows before) xs)

@@ -19,14 +19,14 @@ use Rattle.nodes.specs.Nodes.{Content, explicit, expand, nodes_of, sources_of}
 use Rattle.nodes.specs.Queue.{queue}
 use Rattle.nodes.specs.Rows.{count}
 use Rattle.nodes.proofs.Explicit.{explicit-frames}
-use Rattle.nodes.proofs.Queue.{breadth_queue, weight-under}
+use Rattle.nodes.proofs.Queue.{weight-length, breadth_queue, weight-under}
 use Rattle.nodes.proofs.Rebuild.{all_before_roots, explicit-expand, explicit-natives, flattening-length}
 use Rattle.rebuilding.specs.declared.build.Children.{Children}
 use Rattle.rebuilding.specs.Steps.{adopting, WithRow, Added, Found, Fits, Built}
 use Rattle.rebuilding.proofs.Append.{known_row, taken_out}
 use Rattle.rebuilding.proofs.Beside.{first_new, no_row}
 use Rattle.rebuilding.proofs.Entries.{as_node, listed_items, tree_in, trees, trees_append, count-trees, forest_of, forest-under, trees_of, forest-trees, trees-reverse, forest_append, reverse-one, then_empty, frames_then, frames-reverse, fewer, AllBare, bare-expand, bare-under, bare_waiting, source_childless, early_parents, child_parents}
-use Rattle.rebuilding.proofs.Turns.{waiting, weight_long, weightless, At, Turn, after, at, turn_at, ahead}
+use Rattle.rebuilding.proofs.Turns.{waiting, weightless, At, Turn, after, at, turn_at, ahead}
 
 -- the roots that wait before the first node is listed
 abbrev pub roots : Errors → Tree → List (Entry Content)
@@ -39,14 +39,6 @@ pub record Building (before fs : List Frame) (nodes : List Node) (head : Option 
   pub made : trees_of row ≡ reverse (trees (waiting (roots h t) i))
   pub counted : frames (forest row) ≡ explicit_count (drop i nodes)
   pub ends : end ≡ i + length (waiting (roots h t) i)
-
--- the state before the node at `i - 1` is made, at the index after it
-pub previous : (before fs : List Frame) (nodes : List Node) (head : Option ℕ) (end i : ℕ) (h : Errors) (t : Tree) → 0 < i → Building before fs nodes head end i h t → Building before fs nodes head end (suc (i - 1)) h t
-previous before fs nodes head end i h t some b = subst (λ (n : ℕ). Building before fs nodes head end n h t) (omega arith) b
-
--- the state when no node is left
-pub finished : (before fs : List Frame) (nodes : List Node) (head : Option ℕ) (end i : ℕ) (h : Errors) (t : Tree) → i ≤ 0 → Building before fs nodes head end i h t → Building before fs nodes head end 0 h t
-finished before fs nodes head end i h t none b = subst (λ (n : ℕ). Building before fs nodes head end n h t) (omega arith) b
 
 -- there is a frame for each node that is no source
 pub fits_room : (h : Errors) (nodes : List Node) (t : Tree) (fs : List Frame) → Fits h nodes t fs → explicit_count nodes ≤ unused (reports fs) (rows fs)
@@ -93,7 +85,7 @@ module _ (h : Errors) (nodes : List Node) (t : Tree) (flat : Flattens h nodes t)
       }
 
   end_within : (n : ℕ) → n ≤ length nodes → n + length (waiting (roots h t) n) ≤ length nodes
-  end_within n le = let a = stands n le in let b = a.sums in let c = a.loaded in let d = weight_long (waiting (roots h t) n) in let l = long in omega arith
+  end_within n le = let a = stands n le in let b = a.sums in let c = a.loaded in let d = weight-length (waiting (roots h t) n) in let l = long in omega arith
 
   -- nothing is made at first
   pub building_none : (before : List Frame) → Building before before nodes None (length nodes) (length nodes) h t
@@ -276,7 +268,7 @@ module _ (h : Errors) (nodes : List Node) (t : Tree) (flat : Flattens h nodes t)
                 ∙ forest-under (Some n) first.children in
                 λ i. record { error = (node_is i).error; place = (node_is i).place; children = under_it i }
 
-            pub building_frame : (after : List Frame) (answer : ℕ) → Added before after (drop r.frames b.row) first_tree answer → Building before after nodes (Some answer) r.start n h t
+            pub building_frame : (after : List Frame) (answer : Option ℕ) → Added before after (drop r.frames b.row) first_tree answer → Building before after nodes answer r.start n h t
             building_frame after answer a =
                 let rest : trees_of (drop r.frames b.row) ≡ reverse (trees others) =
                 sym (drop-map (λ (x : ℕ × Tree). x.1) r.frames b.row) ∙ ap (drop r.frames) rows_are ∙ drop_at (reverse (trees kids)) (reverse (trees others)) r.frames kids_long in
@@ -307,9 +299,9 @@ module _ (h : Errors) (nodes : List Node) (t : Tree) (flat : Flattens h nodes t)
     alone = go b.row root_is
       where
         go : (row : Listing) → trees_of row ≡ t ∷ [] → (x : ℕ) × (row ≡ (x, t) ∷ [])
-        go [] e = absurd (let z : ◌≡◌ {A = ℕ} 0 1 = cc in omega arith)
+        go [] e = absurd (cc)
         go (y ∷ []) e = (y.0, ap (λ (u : Tree). (y.0, u) ∷ []) (let same : y.1 ≡ t = cc in same))
-        go (y ∷ (z ∷ row)) e = absurd (let more : z.1 ∷ trees_of row ≡ [] = cc in let z : ◌≡◌ {A = ℕ} 0 1 = cc in omega arith)
+        go (y ∷ (z ∷ row)) e = absurd (let more : z.1 ∷ trees_of row ≡ [] = cc in cc)
 
     pub head_there : is_some head ≡ true
     head_there = ap is_some (b.held.first ∙ ap first_root alone.1)

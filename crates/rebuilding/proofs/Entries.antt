@@ -1,6 +1,7 @@
 -- The trees of entries, and the nodes they are listed as.
-use Rattle.std.proofs.Common.{◌≡◌, ℕ, zero, suc, ◌+◌, ◌<◌, ◌≤◌, Bool, true, false, cond, List, [], ◌∷◌, ◌++◌, map, reverse, length, get_or, drop, Some, Option, sym, refl, ap, ◌∙◌, arith}
+use Rattle.std.proofs.Common.{◌≡◌, ℕ, zero, suc, ◌+◌, ◌<◌, ◌≤◌, Bool, true, false, cond, not, List, [], ◌∷◌, ◌++◌, map, reverse, length, get_or, drop, Some, Option, sym, refl, ap, ◌∙◌, arith}
 use Rattle.std.proofs.lemmas.List.{map-append, reverse-append}
+use Rattle.std.proofs.lemmas.List.Sums.{sum_by-take-drop}
 use Rattle.std.proofs.lemmas.Bool.{eq-eqb}
 use Rattle.model.specs.Host.{Errors}
 use Rattle.trees.specs.Trees.{Forest, empty, tree, Tree, frames, ◌then◌, Listing, forest}
@@ -10,6 +11,7 @@ use Rattle.nodes.specs.Breadth.{Entry, is_parent, item, under}
 use Rattle.nodes.specs.Check.{blank, explicit_count}
 use Rattle.nodes.specs.Flattening.{listed}
 use Rattle.nodes.specs.Nodes.{Content, Nodes, expand, explicit, natives, sources_of}
+use Rattle.nodes.proofs.Explicit.{explicit_by}
 use Rattle.nodes.proofs.Rebuild.{AllBefore, not_parent}
 use Rattle.rebuilding.proofs.Turns.{next, waiting}
 
@@ -57,7 +59,7 @@ forest_of (t ∷ ts) = tree t.error t.place t.children (forest_of ts)
 
 forest-none : (ts : List Tree) → forest_of ts ≡ empty → ts ≡ []
 forest-none [] e = refl
-forest-none (t ∷ ts) e = absurd (let z : ◌≡◌ {A = ℕ} 0 1 = cc in omega arith)
+forest-none (t ∷ ts) e = absurd (cc)
 
 pub forest-under : (o : Option ℕ) (r : Nodes) → forest_of (trees (under o r)) ≡ explicit r
 forest-under o none = refl
@@ -103,13 +105,7 @@ frames-reverse (x ∷ row) =
 
 -- the frames of some of the nodes
 pub fewer : (n : ℕ) (xs : List Node) → explicit_count (drop n xs) ≤ explicit_count xs
-fewer zero xs = omega arith
-fewer (suc n) [] = omega arith
-fewer (suc n) (x ∷ xs) = go x.native (fewer n xs)
-  where
-    go : (b : Bool) → explicit_count (drop n xs) ≤ explicit_count xs → explicit_count (drop n xs) ≤ cond b (explicit_count xs) (explicit_count xs + 1)
-    go true a = a
-    go false a = omega arith
+fewer n xs = omega (arith, explicit_by xs, explicit_by (drop n xs), sum_by-take-drop (λ (x : Node). cond (not x.native) 1 0) xs n)
 
 -- beneath a source there are no frames
 abbrev pub Bare : Nodes → Type 0
@@ -135,7 +131,7 @@ bare_beside (node v c r) s a b = (a.0, a.1, bare_beside r s a.2 b)
 pub bare-expand : (h : Errors) (f : Forest) → Bare (expand h f)
 bare-expand h empty = tt
 bare-expand h (tree e p c r) =
-    (λ q. absurd (let z : ◌≡◌ {A = ℕ} 0 1 = cc in omega arith), bare_beside (natives p (sources_of h e)) (expand h c) (bare-natives p (sources_of h e)) (bare-expand h c), bare-expand h r)
+    (λ q. absurd (cc), bare_beside (natives p (sources_of h e)) (expand h c) (bare-natives p (sources_of h e)) (bare-expand h c), bare-expand h r)
 
 pub bare-under : (o : Option ℕ) (r : Nodes) → Bare r → AllBare (under o r)
 bare-under o none b = tt

@@ -1,5 +1,5 @@
 -- A report put first under another.
-use Rattle.std.proofs.Common.{◌≡◌, ℕ, true, cond, eqb, List, [], ◌∷◌, is_some, Some, None, Option, sym, refl, ap, ◌∙◌, ap₂, arith}
+use Rattle.std.proofs.Common.{◌≡◌, ℕ, true, cond, eqb, List, [], ◌∷◌, is_some, Some, None, Option, sym, refl, ap, ◌∙◌, ap₂}
 use Rattle.std.specs.Map.{update}
 use Rattle.std.proofs.lemmas.Map.{update_here, update_apart}
 use Rattle.std.proofs.lemmas.Bool.{eq-eqb, cond-true}
@@ -9,7 +9,8 @@ use Rattle.layout.specs.declared.frame.Frame.{Frame}
 use Rattle.layout.specs.Reports.{Means, reports, rows}
 use Rattle.layout.specs.Calls.{Drained, taken}
 use Rattle.rebuilding.specs.Steps.{with_first}
-use Rattle.rebuilding.proofs.Beside.{updated, closed, there, no_row}
+use Rattle.trees.proofs.Options.{there}
+use Rattle.rebuilding.proofs.Beside.{updated, closed, no_row}
 
 -- the children of the other were drained, and come back behind it
 module _ (before mid after last : List Frame) (x y : ℕ) (live : is_some (reports before x) ≡ true) (lives : is_some (reports before y) ≡ true) (apart : x ≡ y → ⊥) where
@@ -26,7 +27,7 @@ module _ (before mid after last : List Frame) (x y : ℕ) (live : is_some (repor
     row = go (rows mid head) refl
       where
         go : (o : Option Listing) → rows mid head ≡ o → (r : Listing) × (rows mid head ≡ Some r)
-        go None q = absurd (let a : Some head ≡ None = d.first ∙ ap (λ (o : Option Listing). first_root (list_of o)) q in let z : ◌≡◌ {A = ℕ} 0 1 = cc in omega arith)
+        go None q = absurd (let a : Some head ≡ None = d.first ∙ ap (λ (o : Option Listing). first_root (list_of o)) q in cc)
         go (Some r) q = (r, q)
 
     listed : taken mid (Some head) ≡ row.0
@@ -63,14 +64,14 @@ module _ (before mid after last : List Frame) (x y : ℕ) (live : is_some (repor
     is_row k = j.rows k ∙ d.means.rows k ∙ go row.0 (ap (λ (r : Listing). opened (rows before) r k) listed) (d.first ∙ ap first_root listed)
       where
         go : (r : Listing) → opened (rows before) (taken mid (Some head)) k ≡ opened (rows before) r k → Some head ≡ first_root r → opened (rows before) (taken mid (Some head)) k ≡ update eqb (rows before) head (Some r) k
-        go [] q e = absurd (let z : ◌≡◌ {A = ℕ} 0 1 = cc in omega arith)
+        go [] q e = absurd (cc)
         go (z ∷ zs) q e = let same : head ≡ z.0 = cc in q ∙ ap (λ (n : ℕ). update eqb (rows before) n (Some (z ∷ zs)) k) (sym same)
 
     first_among : among head (taken mid (Some head)) ≡ true
     first_among = go (taken mid (Some head)) d.first
       where
         go : (r : Listing) → Some head ≡ first_root r → among head r ≡ true
-        go [] e = absurd (let z : ◌≡◌ {A = ℕ} 0 1 = cc in omega arith)
+        go [] e = absurd (cc)
         go (z ∷ zs) e = let same : head ≡ z.0 = cc in cond-true (eqb head z.0) true (among head zs) (eq-eqb head z.0 same)
 
     pub joined_first : Means last (update eqb (update eqb (reports before) y None) x (with_first (reports before x) (reports before y))) (rows before)

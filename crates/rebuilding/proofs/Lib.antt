@@ -2,7 +2,6 @@ pub mod Beside
 pub mod JoinFirst
 pub mod Adopt
 pub mod Append
-pub mod Children
 pub mod Turns
 pub mod Entries
 pub mod Building

@@ -3,7 +3,7 @@ use Rattle.std.proofs.Common.{◌≡◌, ℕ, zero, suc, ◌+◌, ◌-◌, ◌<�
 use Rattle.std.proofs.lemmas.List.{append-nil, drop-drop}
 use Rattle.nodes.specs.Breadth.{Item, Entry, item, under, below}
 use Rattle.nodes.specs.Queue.{queue, weight}
-use Rattle.nodes.proofs.Queue.{queue_front, weight_append, weight-under}
+use Rattle.nodes.proofs.Queue.{queue_front, weight_append, weight-length, weight-under}
 use Rattle.nodes.proofs.Rebuild.{AllBefore, all_before_append, all_before_more, all_before_under}
 
 module _ {A : Type 0} where
@@ -16,10 +16,6 @@ module _ {A : Type 0} where
   abbrev pub waiting : List (Entry A) → ℕ → List (Entry A)
   waiting ws zero = ws
   waiting ws (suc n) = next n (waiting ws n)
-
-  pub weight_long : (ws : List (Entry A)) → length ws ≤ weight ws
-  weight_long [] = omega arith
-  weight_long (w ∷ ws) = let a = weight_long ws in omega arith
 
   pub weightless : (ws : List (Entry A)) → weight ws ≡ 0 → ws ≡ []
   weightless [] e = refl
@@ -102,7 +98,7 @@ module _ {A : Type 0} where
 
     pub ahead : (n : ℕ) → At n → Ahead n
     ahead n a =
-        let l = weight_long (waiting ws n) in
+        let l = weight-length (waiting ws n) in
         let b = a.loaded in
         let f : ℕ = a.left - length (waiting ws n) in
         let e : a.left ≡ length (waiting ws n) + f = omega arith in

@@ -44,9 +44,9 @@ pub record WithReport (before after : List Frame) (head : Option ℕ) (row : Lis
   pub means : Means after (update nat_eq (reports before) x (Some t)) (opened (rows before) row)
 
 -- a tree is the last of a row that is one row more than before
-pub record Added (before after : List Frame) (row : Listing) (t : Tree) (head : ℕ) : Type 0 where
+pub record Added (before after : List Frame) (row : Listing) (t : Tree) (head : Option ℕ) : Type 0 where
   pub root : ℕ
-  pub held : WithRow before after (Some head) (row ++ (root, t) ∷ [])
+  pub held : WithRow before after head (row ++ (root, t) ∷ [])
 
 -- the last nodes before `end` whose parent is the node `i`: where they begin, and how many of them are frames
 pub record Found (nodes : List Node) (i end : ℕ) (r : Children) : Type 0 where

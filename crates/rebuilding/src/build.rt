@@ -35,62 +35,67 @@ fn join_first(frames: &mut Frames, x: u16, y: u16)
     }
 }
 
-// Makes the first `count` reports of a row the first children of the root of a report, the first of them last, and answers
-// the first root of the others.
-fn adopt(frames: &mut Frames, root: u16, head: Option<u16>, count: usize) -> Option<u16>
-    requires { ∥ ((before : List Frame) × ((row : Listing) × ((t : Tree) × (WithReport before (frames_of frames.old) head row root t × (count ≤ length row))))) ∥₁ }
-    ensures { (before : List Frame) (row : Listing) (t : Tree) → WithReport before (frames_of frames.old) head row root t → count ≤ length row
-        → WithReport before (frames_of frames.new) result (drop count row) root (adopting t (take count row)) }
-{
-    let mut first = head;
-    for _ in 0..count {
-        let child = first.unwrap();
-        first = frames.pop(child);
-        join_first(frames, root, child);
+// Trees that do not stand under their parents yet: a row in the frames of a store, known by its first root. What the
+// calls ask is no invariant: while a frame is added, its report stands beside the row. A `&mut` field does not say by itself
+// that it is the same loan after a call, so each call says it.
+#[derive(Drop)]
+struct TreeRow<'a> {
+    frames: &'a mut Frames,
+    head: Option<u16>,
+}
+
+impl<'a> TreeRow<'a> {
+    // Makes the first `count` reports of the row the first children of the root of a report, the first of them last.
+    fn adopt(&mut self, root: u16, count: usize)
+        requires { ∥ ((before : List Frame) × ((row : Listing) × ((t : Tree) × (WithReport before (frames_of self.old.frames.now) self.old.head row root t × (count ≤ length row))))) ∥₁ }
+        ensures same_frames { self.new.frames.ghost_name ≡ self.old.frames.ghost_name }
+        ensures adopts { (before : List Frame) (row : Listing) (t : Tree) → WithReport before (frames_of self.old.frames.now) self.old.head row root t → count ≤ length row
+            → WithReport before (frames_of self.new.frames.now) self.new.head (drop count row) root (adopting t (take count row)) }
+    {
+        for _ in 0..count {
+            let child = self.head.unwrap();
+            self.head = self.frames.pop(child);
+            join_first(self.frames, root, child);
+        }
     }
-    first
+
+    // Puts a report at the end of the row, or makes it one where there is none.
+    fn append(&mut self, root: u16)
+        requires { ∥ ((before : List Frame) × ((row : Listing) × ((t : Tree) × WithReport before (frames_of self.old.frames.now) self.old.head row root t))) ∥₁ }
+        ensures same_frames { self.new.frames.ghost_name ≡ self.old.frames.ghost_name }
+        ensures adds { (before : List Frame) (row : Listing) (t : Tree) → WithReport before (frames_of self.old.frames.now) self.old.head row root t
+            → Added before (frames_of self.new.frames.now) row t self.new.head }
+    {
+        self.head = Some(self.frames.append(self.head, root));
+    }
+
+    // Makes a frame for a node, with the first `count` reports of the row as its children, the first of them last, and puts
+    // it at the end of the row.
+    fn add_frame(&mut self, node: Node, count: usize)
+        requires room { 0 < free_of self.old.frames.now }
+        requires held { ∥ ((before : List Frame) × ((row : Listing) × (WithRow before (frames_of self.old.frames.now) self.old.head row × (count ≤ length row)))) ∥₁ }
+        ensures same_frames { self.new.frames.ghost_name ≡ self.old.frames.ghost_name }
+        ensures adds { (before : List Frame) (row : Listing) → WithRow before (frames_of self.old.frames.now) self.old.head row → count ≤ length row
+            → Added before (frames_of self.new.frames.now) (drop count row) (adopting (leaf node.error node.place) (take count row)) self.new.head }
+    {
+        let root = self.frames.begin(node.error, node.place).unwrap();
+        self.adopt(root, count);
+        self.append(root);
+    }
 }
 
-// Puts a report at the end of a row, or makes it one where there is none, and answers the row's first root.
-fn append(frames: &mut Frames, head: Option<u16>, root: u16) -> u16
-    requires { ∥ ((before : List Frame) × ((row : Listing) × ((t : Tree) × WithReport before (frames_of frames.old) head row root t))) ∥₁ }
-    ensures { (before : List Frame) (row : Listing) (t : Tree) → WithReport before (frames_of frames.old) head row root t
-        → Added before (frames_of frames.new) row t result }
-{
-    let Some(first) = head else {
-        frames.row_of(root);
-        return root;
-    };
-    frames.push(first, root);
-    first
-}
-
-// Makes a frame for a node, with the first `count` reports of a row as its children, the first of them last, and puts it
-// at the end of the row. Answers the row's first root.
-fn add_frame(frames: &mut Frames, node: Node, head: Option<u16>, count: usize) -> u16
-    requires room { 0 < free_of frames.old }
-    requires held { ∥ ((before : List Frame) × ((row : Listing) × (WithRow before (frames_of frames.old) head row × (count ≤ length row)))) ∥₁ }
-    ensures { (before : List Frame) (row : Listing) → WithRow before (frames_of frames.old) head row → count ≤ length row
-        → Added before (frames_of frames.new) (drop count row) (adopting (leaf node.error node.place) (take count row)) result }
-{
-    let root = frames.begin(node.error, node.place).unwrap();
-    let rest = adopt(frames, root, head, count);
-    append(frames, rest, root)
-}
-
-// The children of the node `i`, which are the last nodes before `end`.
+// The children of the node `i`, which are the last nodes before `end`: an index, as is the start that is answered.
 fn children_of(nodes: &[Node], i: usize, end: usize) -> Children
     requires { (i < end) × (end ≤ length nodes.now) }
     ensures { Found nodes.now i end result }
 {
-    let mut start = end;
-    let mut frames = 0;
-    while start > i + 1 && nodes[start - 1].parent == Some(i) {
-        start -= 1;
-        if !nodes[start].native {
-            frames += 1;
-        }
-    }
+    let count = nodes[i + 1..end]
+        .iter()
+        .rev()
+        .take_while(|node| node.parent == Some(i))
+        .count();
+    let start = end - count;
+    let frames = nodes[start..end].iter().filter(|node| !node.native).count();
     Children { start, frames }
 }
 
@@ -100,16 +105,16 @@ pub fn build(frames: &mut Frames, nodes: &[Node]) -> u16
     requires { ∥ ((h : Errors) × ((t : Tree) × Fits h nodes.now t (frames_of frames.old))) ∥₁ }
     ensures { (h : Errors) (t : Tree) → Flattens h nodes.now t → Built (frames_of frames.old) (frames_of frames.new) result t }
 {
-    let mut head = None;
+    let mut row = TreeRow { frames, head: None };
     let mut end = nodes.len();
-    for i in (0..nodes.len()).rev() {
+    for (i, node) in nodes.iter().enumerate().rev() {
         let children = children_of(nodes, i, end);
         end = children.start;
-        if !nodes[i].native {
-            head = Some(add_frame(frames, nodes[i], head, children.frames));
+        if !node.native {
+            row.add_frame(*node, children.frames);
         }
     }
-    let root = head.unwrap();
-    frames.pop(root);
+    let root = row.head.unwrap();
+    row.frames.pop(root);
     root
 }

@@ -1,5 +1,5 @@
 -- A report's chain.
-use Rattle.std.proofs.Common.{◌≡◌, ℕ, Bool, true, List, ◌++◌, length, take, drop, Some, None, Option, sym, refl, ap, ◌∙◌, arith}
+use Rattle.std.proofs.Common.{◌≡◌, ℕ, Bool, true, List, ◌++◌, length, take, drop, Some, None, Option, sym, refl, ap, ◌∙◌}
 use Rattle.std.proofs.lemmas.List.{take_at}
 use Rattle.vocabulary.specs.declared.fault.StoreFault.{StoreFault}
 use Rattle.model.specs.Host.{Errors, Extends, Lawful}
@@ -19,7 +19,7 @@ use Rattle.store.specs.Chains.{ChainOf, list_cause_of, nodes_in}
 use Rattle.store.specs.Store.{Became, ledger_of}
 use Rattle.store.specs.declared.chain.ChainedError.{ChainedError}
 use Rattle.store.specs.declared.store.Store.{Store}
-use Rattle.store.specs.declared.token.Exn.{Exn}
+use Rattle.store.specs.Token.{Exn}
 
 -- where no cause is left, all errors are live
 pub live_since : (h : Errors) (t : Tree) (rest : Option StoreFault) → all_live (first_not_live h (errors_of h t)) rest ≡ None → first_not_live h (errors_of h t) ≡ None
@@ -27,7 +27,7 @@ live_since h t rest q = go (first_not_live h (errors_of h t)) q
   where
     go : (o : Option ℕ) → all_live o rest ≡ None → o ≡ None
     go None q = refl
-    go (Some e) q = absurd (let z : ◌≡◌ {A = ℕ} 0 1 = cc in omega arith)
+    go (Some e) q = cc
 
 pub live_tree : (h : Errors) (span : ℕ) → Lawful h span → (t : Tree) → first_not_live h (errors_of h t) ≡ None → LiveTree h t
 live_tree h span l t q = tree_live h t (sym (first_not_live_by_frames h span l t) ∙ q)

@@ -1,5 +1,5 @@
 -- What a client may rely on from call to call.
-use Rattle.std.proofs.Common.{◌≡◌, ℕ, Bool, true, ◌&&◌, eqb, is_some, Some, None, Option, sym, refl, ap, ◌∙◌, ap₂, arith, eq-eqb}
+use Rattle.std.proofs.Common.{◌≡◌, ℕ, Bool, true, ◌&&◌, eqb, is_some, Some, None, Option, sym, refl, ap, ◌∙◌, ap₂, eq-eqb}
 use Rattle.std.proofs.lemmas.Bool.{and_from}
 use Rattle.vocabulary.specs.declared.fault.StoreFault.{StoreFault}
 use Rattle.ledger.specs.Causes.{held, is_row}
@@ -7,12 +7,11 @@ use Rattle.ledger.specs.Ledger.{Ledger}
 use Rattle.store.specs.Calls.{basket_held, report_held, NewExn}
 use Rattle.store.specs.Store.{ledger_of, Became}
 use Rattle.store.specs.declared.store.Store.{Store}
-use Rattle.store.specs.declared.token.Basket.{Basket}
-use Rattle.store.specs.declared.token.Exn.{Exn}
+use Rattle.store.specs.Token.{Basket, Exn}
 
 -- a call that leaves the baskets' rows alone leaves every basket as it was
 pub basket_stays : (before after : Store) (l : Ledger) → Became before after l → ((j : ℕ) → l.rows j ≡ (ledger_of before).rows j) → (b : Basket) → basket_held after b ≡ basket_held before b
-basket_stays before after l c same b = ap₂ (λ (x y : Bool). (x && y)) (ap (eqb b.store) c.number) (rows b.head)
+basket_stays before after l c same b = ap₂ (λ (x y : Bool). (x && y)) (ap (eqb b.store) c.number) (rows b.root)
   where
     rows : (h : Option ℕ) → is_row (ledger_of after) h ≡ is_row (ledger_of before) h
     rows None = refl
@@ -27,6 +26,4 @@ new_held before after cause l y n v =
 
 -- with both handles the store's, no cause is left
 pub both_held : (a b : Bool) (f : StoreFault) → a ≡ true → b ≡ true → held (a && b) None ≡ Some f → ⊥
-both_held a b f p q r =
-    let n : None ≡ Some f = sym (ap (λ (t : Bool). held t None) (and_from a b p q)) ∙ r in
-    let z : ◌≡◌ {A = ℕ} 0 1 = cc in omega arith
+both_held a b f p q r = let n : None ≡ Some f = sym (ap (λ (t : Bool). held t None) (and_from a b p q)) ∙ r in cc

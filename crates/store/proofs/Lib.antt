@@ -2,4 +2,4 @@ pub mod Baskets
 pub mod Clients
 pub mod Chains
 pub mod Trees
-pub mod Fronts
+pub mod Accepted

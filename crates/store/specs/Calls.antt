@@ -10,9 +10,9 @@ use Rattle.ledger.specs.Causes.{frame_cause, held, is_basket, is_held}
 use Rattle.ledger.specs.Ledger.{Ledger, Drain, Fresh, chained, chained_all, collected, discarded, discarded_all, drained, longer, made, raised, raised_all, row_of, taken}
 use Rattle.store.specs.Store.{ledger_of, Became}
 use Rattle.store.specs.declared.store.Store.{Store}
-use Rattle.store.specs.declared.token.Basket.{Basket}
-use Rattle.store.specs.declared.token.Exn.{Exn}
 use Rattle.store.specs.declared.token.Refusal.{Refusal}
+use Rattle.store.specs.declared.token.Token.{Token}
+use Rattle.store.specs.Token.{Basket, Exn}
 
 -- a new frame of its own is made, under a number that was no root; or nothing changes
 abbrev pub FrameMade : Store → Store → Errors → ℕ → ℕ → Result ℕ StoreFault → Type 0
@@ -41,12 +41,16 @@ pub record OpenBasket (s : Store) (b : Basket) : Type 0 where
 abbrev pub report_held : Store → Exn → Bool
 report_held s x = is_held s.number (ledger_of s) x.store x.root
 
+-- the same of any token, whose reports are live or not
+abbrev pub token_held : {R : Type 0} → (Ledger → R → Bool) → Store → Token R → Bool
+token_held is_live s t = t.store == s.number && is_live (ledger_of s) t.root
+
 -- the root of a report of the store
 abbrev pub held_root : Store → Exn → Result ℕ StoreFault
 held_root s x = cond (report_held s x) (Ok x.root) (Err NotHeld)
 
 abbrev pub basket_held : Store → Basket → Bool
-basket_held s b = is_basket s.number (ledger_of s) b.store b.head
+basket_held s b = is_basket s.number (ledger_of s) b.store b.root
 
 -- a new report over what the ledger says, under a number that was no root
 pub record NewExn (before after : Store) (cause : Option StoreFault) (l : ℕ → Ledger) (y : Exn) : Type 0 where
@@ -58,13 +62,16 @@ abbrev pub Made : Store → Store → Errors → ℕ → ℕ → Result Exn Stor
 Made before after h e p (Ok y) = NewExn before after (frame_cause (ledger_of before) h e) (made (ledger_of before) (Host e) p) y
 Made before after h e p (Err f) = TurnedDown before after (frame_cause (ledger_of before) h e) f
 
+-- a call that takes what is given for a new report, or hands it back
+abbrev pub TakesForNew : {X : Type 0} → Store → Store → Option StoreFault → (ℕ → Ledger) → X → Result Exn (Refusal X) → Type 0
+TakesForNew before after cause l x (Ok y) = NewExn before after cause l y
+TakesForNew before after cause l x (Err t) = TurnedDown before after cause t.fault × (t.given ≡ x)
+
 abbrev pub Raised : Store → Store → Errors → Exn → ℕ → ℕ → Result Exn (Refusal Exn) → Type 0
-Raised before after h x e p (Ok y) = NewExn before after (held (report_held before x) (frame_cause (ledger_of before) h e)) (raised (ledger_of before) x.root (Host e) p) y
-Raised before after h x e p (Err t) = TurnedDown before after (held (report_held before x) (frame_cause (ledger_of before) h e)) t.fault × (t.given ≡ x)
+Raised before after h x e p r = TakesForNew before after (held (report_held before x) (frame_cause (ledger_of before) h e)) (raised (ledger_of before) x.root (Host e) p) x r
 
 abbrev pub RaisedAll : Store → Store → Errors → Basket → ℕ → ℕ → Result Exn (Refusal Basket) → Type 0
-RaisedAll before after h b e p (Ok y) = NewExn before after (held (basket_held before b) (frame_cause (ledger_of before) h e)) (raised_all (ledger_of before) b.head (Host e) p) y
-RaisedAll before after h b e p (Err t) = TurnedDown before after (held (basket_held before b) (frame_cause (ledger_of before) h e)) t.fault × (t.given ≡ b)
+RaisedAll before after h b e p r = TakesForNew before after (held (basket_held before b) (frame_cause (ledger_of before) h e)) (raised_all (ledger_of before) b.root (Host e) p) b r
 
 -- a call on a store that takes what is given, or hands it back
 abbrev pub Takes : {A X : Type 0} → Store → Store → Option StoreFault → Ledger → X → Result A (Refusal X) → Type 0
@@ -77,19 +84,19 @@ Chained before after x y r =
 
 abbrev pub ChainedAll : Store → Store → Exn → Basket → Result (Unit {0}) (Refusal Basket) → Type 0
 ChainedAll before after x b r =
-    Takes before after (held (report_held before x && basket_held before b) None) (chained_all (ledger_of before) x.root b.head) b r
+    Takes before after (held (report_held before x && basket_held before b) None) (chained_all (ledger_of before) x.root b.root) b r
 
 abbrev pub Discarded : Store → Store → Exn → Result (Unit {0}) (Refusal Exn) → Type 0
 Discarded before after x r = Takes before after (held (report_held before x) None) (discarded (ledger_of before) x.root) x r
 
 abbrev pub DiscardedAll : Store → Store → Basket → Result (Unit {0}) (Refusal Basket) → Type 0
-DiscardedAll before after b r = Takes before after (held (basket_held before b) None) (discarded_all (ledger_of before) b.head) b r
+DiscardedAll before after b r = Takes before after (held (basket_held before b) None) (discarded_all (ledger_of before) b.root) b r
 
 -- the children become the row of a new basket; which numbers they get is not determined
 pub record DrainedInto (before after : Store) (x : Exn) (b : Basket) : Type 0 where
-  pub granted : Granted before after (held (report_held before x) None) (drained (ledger_of before) x.root (row_of (ledger_of after) b.head))
-  pub drain : Drain (ledger_of before) x.root (row_of (ledger_of after) b.head)
-  pub first : b.head ≡ first_root (row_of (ledger_of after) b.head)
+  pub granted : Granted before after (held (report_held before x) None) (drained (ledger_of before) x.root (row_of (ledger_of after) b.root))
+  pub drain : Drain (ledger_of before) x.root (row_of (ledger_of after) b.root)
+  pub first : b.root ≡ first_root (row_of (ledger_of after) b.root)
   pub open_basket : OpenBasket before b
 
 abbrev pub Drained : Store → Store → Exn → Result Basket StoreFault → Type 0
@@ -99,17 +106,17 @@ Drained before after x (Err f) = TurnedDown before after (held (report_held befo
 -- a report goes to the end of a basket, which is then known by the first root of its row
 abbrev pub Collected : Store → Store → Basket → Basket → Exn → Result (Unit {0}) (Refusal Exn) → Type 0
 Collected before after b b' x r =
-    Takes before after (held (basket_held before b && report_held before x) None) (collected (ledger_of before) b.head x.root) x r
-    × elim r [ Ok u ↦ b' ≡ record { store = b.store; head = first_root (longer (ledger_of before) b.head x.root); spent = b.spent } | Err t ↦ b' ≡ b ]
+    Takes before after (held (basket_held before b && report_held before x) None) (collected (ledger_of before) b.root x.root) x r
+    × elim r [ Ok u ↦ b' ≡ record { store = b.store; root = first_root (longer (ledger_of before) b.root x.root); spent = b.spent } | Err t ↦ b' ≡ b ]
 
 -- the first report of a basket's row, or none of an empty one
 pub record TakenOut (before after : Store) (b b' : Basket) (y : Exn) : Type 0 where
-  pub granted : Granted before after (held (basket_held before b) None) (taken (ledger_of before) b.head (row_of (ledger_of before) b.head))
-  pub first : Some y.root ≡ first_root (row_of (ledger_of before) b.head)
+  pub granted : Granted before after (held (basket_held before b) None) (taken (ledger_of before) b.root (row_of (ledger_of before) b.root))
+  pub first : Some y.root ≡ first_root (row_of (ledger_of before) b.root)
   pub open_exn : OpenExn before y
-  pub rest : b' ≡ record { store = b.store; head = first_root (rest_of (Some (row_of (ledger_of before) b.head))); spent = b.spent }
+  pub rest : b' ≡ record { store = b.store; root = first_root (rest_of (Some (row_of (ledger_of before) b.root))); spent = b.spent }
 
 abbrev pub Taken : Store → Store → Basket → Basket → Result (Option Exn) StoreFault → Type 0
 Taken before after b b' (Ok (Some y)) = TakenOut before after b b' y
-Taken before after b b' (Ok None) = (held (basket_held before b) None ≡ None) × (row_of (ledger_of before) b.head ≡ []) × (after ≡ before) × (b' ≡ b)
+Taken before after b b' (Ok None) = (held (basket_held before b) None ≡ None) × (row_of (ledger_of before) b.root ≡ []) × (after ≡ before) × (b' ≡ b)
 Taken before after b b' (Err f) = TurnedDown before after (held (basket_held before b) None) f × (b' ≡ b)

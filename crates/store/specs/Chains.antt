@@ -13,7 +13,7 @@ use Rattle.store.specs.Calls.{Granted, OpenExn, TurnedDown, report_held}
 use Rattle.store.specs.Store.{Became, ledger_of}
 use Rattle.store.specs.declared.chain.ChainedError.{ChainedError}
 use Rattle.store.specs.declared.store.Store.{Store}
-use Rattle.store.specs.declared.token.Exn.{Exn}
+use Rattle.store.specs.Token.{Exn}
 use Rattle.store.specs.declared.token.Refusal.{Refusal}
 
 -- the nodes of a chain, in the list that it is lent

@@ -1,3 +1,7 @@
+pub mod Accepted
 pub mod Calls
-pub mod Store
 pub mod Chains
+pub mod Raises
+pub mod Roots
+pub mod Store
+pub mod Token

@@ -3,35 +3,25 @@ ghost use Rattle.std.specs.Prelude.{◌≡◌, false, None};
 ghost use Rattle.store.specs.Calls.{Collected, DiscardedAll, Taken};
 
 use crate::store::Store;
-use crate::token::{Basket, Exn, Refusal};
+use crate::token::{Basket, Exn, Refusal, Token, accept};
 use vocabulary::fault::StoreFault;
 
 impl Store {
     // An empty basket.
     pub fn basket(&self) -> Basket
-        ensures { result ≡ record { store = self.now.number; head = None; spent = false } }
+        ensures { result ≡ record { store = self.now.number; root = None; spent = false } }
     {
-        Basket {
-            store: self.number,
-            head: None,
-            spent: false,
-        }
+        self.token(None)
     }
 }
 
-impl Basket {
+impl Token<Option<u16>> {
     // Puts a report at the end.
-    pub fn collect(&mut self, store: &mut Store, mut report: Exn) -> Result<(), Refusal<Exn>>
+    pub fn collect(&mut self, store: &mut Store, report: Exn) -> Result<(), Refusal<Exn>>
         ensures { Collected store.old store.new self.old self.new report result }
     {
-        if !store.holds_row(self) || !store.holds(&report) {
-            return Err(Refusal {
-                fault: StoreFault::NotHeld,
-                given: report,
-            });
-        }
-        self.head = Some(store.push(self.head, report.root));
-        report.spent = true;
+        let report = accept(store.holds(self) && store.holds(&report), report)?;
+        self.root = Some(store.push(self.root, report.spend()));
         Ok(())
     }
 
@@ -39,34 +29,17 @@ impl Basket {
     pub fn take(&mut self, store: &mut Store) -> Result<Option<Exn>, StoreFault>
         ensures { Taken store.old store.new self.old self.new result }
     {
-        if !store.holds_row(self) {
-            return Err(StoreFault::NotHeld);
-        }
-        let Some(root) = self.head else {
+        let Some(first) = store.root(self)? else {
             return Ok(None);
         };
-        self.head = store.pop(root);
-        Ok(Some(Exn {
-            store: store.number,
-            root,
-            spent: false,
-        }))
+        self.root = store.pop(first);
+        Ok(Some(store.token(first)))
     }
 
     // Frees the frames of all reports in the basket.
-    pub fn discard(mut self, store: &mut Store) -> Result<(), Refusal<Basket>>
+    pub fn discard(self, store: &mut Store) -> Result<(), Refusal<Basket>>
         ensures { DiscardedAll store.old store.new self result }
     {
-        if !store.holds_row(&self) {
-            return Err(Refusal {
-                fault: StoreFault::NotHeld,
-                given: self,
-            });
-        }
-        if let Some(head) = self.head {
-            store.frames.discard_row(head);
-        }
-        self.spent = true;
-        Ok(())
+        store.discard(self)
     }
 }

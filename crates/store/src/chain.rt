@@ -1,17 +1,17 @@
 // Reports as chains: flattened into the caller's list, and built again.
 ghost use Rattle.std.specs.Prelude.{◌≡◌, length};
-ghost use Rattle.store.specs.Chains.{Flattened, Rebuilt, RootBuilt};
+ghost use Rattle.store.specs.Chains.{Flattened, Rebuilt, RootBuilt, nodes_in};
 
 use crate::store::Store;
-use crate::token::{Exn, Refusal};
-use checks::check::{explicit_nodes, first_bad};
+use crate::token::{Exn, Refusal, Token, accept, beside};
+use checks::check::{check_flattening, explicit_nodes};
 use host::host::Host;
 use nodes::node::Node;
 use rebuilding::build::build;
 use traversal::report::flatten_report;
 use vocabulary::fault::StoreFault;
 
-// A chain: the first nodes of a list, which the caller keeps and lends to each call.
+// A chain: the first nodes of a list, which the caller keeps and lends to each call, since nothing here allocates.
 #[derive(Drop)]
 pub struct ChainedError {
     pub(crate) nodes: usize,
@@ -34,15 +34,15 @@ impl ChainedError {
     ) -> Result<Exn, Refusal<ChainedError>>
         ensures { Rebuilt store.old store.new (H.Host.errors host.now) self list.now result }
     {
-        let n = self.nodes.min(list.len());
-        match store.rebuild(host, &list[0..n]) {
-            Ok(root) => Ok(Exn {
-                store: store.number,
-                root,
-                spent: false,
-            }),
-            Err(fault) => Err(Refusal { fault, given: self }),
-        }
+        let (root, _) = beside(store.rebuild(host, self.front(list)), self)?;
+        Ok(store.token(root))
+    }
+
+    // The nodes of the chain in the list that it is lent: all of a list that has fewer.
+    pub fn front<'a>(&self, list: &'a [Node]) -> &'a [Node]
+        ensures { result.now ≡ nodes_in self.now list.now }
+    {
+        &list[..self.nodes.min(list.len())]
     }
 
     // How many nodes of its list are the chain's.
@@ -55,12 +55,11 @@ impl ChainedError {
 
 impl Store {
     // The frames of the tree that flattens to the nodes, and their root.
+    #[tactic(auto, using(crate::proofs::Trees::no_tree, crate::proofs::Trees::too_few))]
     pub(crate) fn rebuild<H: Host>(&mut self, host: &H, nodes: &[Node]) -> Result<u16, StoreFault>
         ensures { RootBuilt self.old self.new (H.Host.errors host.now) nodes.now result }
     {
-        if let Some(i) = first_bad(host, nodes) {
-            return Err(StoreFault::NotFlattening(i));
-        }
+        check_flattening(host, nodes)?;
         let need = explicit_nodes(nodes);
         if self.frames.free() < need {
             return Err(StoreFault::NoFrames(need));
@@ -69,29 +68,20 @@ impl Store {
     }
 }
 
-impl Exn {
+impl Token<u16> {
     // Writes the flattening of the report into a list, and frees its frames.
     pub fn into_chain<H: Host>(
-        mut self,
+        self,
         store: &mut Store,
         host: &H,
         list: &mut [Node],
     ) -> Result<ChainedError, Refusal<Exn>>
         ensures { Flattened store.old store.new (H.Host.errors host.now) self list.old list.new result }
     {
-        if !store.holds(&self) {
-            return Err(Refusal {
-                fault: StoreFault::NotHeld,
-                given: self,
-            });
-        }
-        match flatten_report(host, &store.frames, self.root, list) {
-            Ok(nodes) => {
-                store.frames.discard(self.root);
-                self.spent = true;
-                Ok(ChainedError { nodes })
-            }
-            Err(fault) => Err(Refusal { fault, given: self }),
-        }
+        let report = accept(store.holds(&self), self)?;
+        let flattened = flatten_report(host, &store.frames, report.root, list);
+        let (nodes, report) = beside(flattened, report)?;
+        store.frames.discard(report.spend());
+        Ok(ChainedError { nodes })
     }
 }

@@ -2,7 +2,9 @@
 #![tactic(auto)]
 
 pub mod basket;
+mod calls;
 pub mod chain;
 pub mod exn;
+mod root;
 pub mod store;
 pub mod token;

@@ -1,13 +1,16 @@
-ghost use Rattle.std.specs.Prelude.{◌≡◌, true, is_some, Some};
+ghost use Rattle.std.specs.Prelude.{◌≡◌, true, false, cond, Some, Ok, Err};
+ghost use Rattle.vocabulary.specs.declared.fault.StoreFault.TheVariants.{NotHeld};
 ghost use Rattle.trees.specs.Listings.{rest_of};
 ghost use Rattle.trees.specs.Trees.{first_root};
 ghost use Rattle.layout.specs.Invariant.{WellFormed};
-ghost use Rattle.ledger.specs.Causes.{is_basket, is_held, is_row};
-ghost use Rattle.ledger.specs.Ledger.{chained_all, collected, free as free_in, longer, nothing, row_of, taken};
-ghost use Rattle.store.specs.Calls.{FrameMade, held_root};
+ghost use Rattle.ledger.specs.Causes.{is_row};
+ghost use Rattle.ledger.specs.Ledger.{collected, free as free_in, longer, nothing, row_of, taken};
+ghost use Rattle.store.specs.Calls.{FrameMade, held_root, token_held};
+ghost use Rattle.store.specs.Roots.{is_report};
 ghost use Rattle.store.specs.Store.{ledger_of, Became, Holds};
 
-use crate::token::{Basket, Exn};
+use crate::root::Root;
+use crate::token::{Exn, Token};
 use frames::store::Frames;
 use host::host::Host;
 use vocabulary::fault::StoreFault;
@@ -58,30 +61,34 @@ impl Store {
     pub fn root_of(&self, report: &Exn) -> Result<u16, StoreFault>
         ensures { result ≡ held_root self.now report.now }
     {
-        if !self.holds(report) {
-            return Err(StoreFault::NotHeld);
-        }
-        Ok(report.root)
+        self.root(report)
     }
 
-    // Whether a report is this store's, and live.
-    pub(crate) fn holds(&self, report: &Exn) -> bool
-        ensures { result ≡ is_held self.now.number (ledger_of self.now) report.now.store report.now.root }
+    // A token of this store.
+    pub(crate) fn token<R: Copy>(&self, root: R) -> Token<R>
+        ensures { result ≡ record { store = self.now.number; root = root; spent = false } }
     {
-        report.store == self.number && self.frames.is_report(report.root)
+        Token {
+            store: self.number,
+            root,
+            spent: false,
+        }
     }
 
-    // Whether a basket is this store's, and empty or live.
-    pub(crate) fn holds_row(&self, basket: &Basket) -> bool
-        ensures { result ≡ is_basket self.now.number (ledger_of self.now) basket.now.store basket.now.head }
+    // Whether a token is this store's, and live.
+    pub(crate) fn holds<R: Root>(&self, token: &Token<R>) -> bool
+        ensures { result ≡ token_held R.live self.now token.now }
     {
-        if basket.store != self.number {
-            return false;
-        }
-        match basket.head {
-            Some(head) => self.frames.is_row(head),
-            None => true,
-        }
+        token.store == self.number && token.root.is_live(self)
+    }
+
+    // The root of a token, which has to be this store's, and live.
+    pub(crate) fn root<R: Root>(&self, token: &Token<R>) -> Result<R, StoreFault>
+        ensures { result ≡ cond (token_held R.live self.now token.now) (Ok token.now.root) (Err NotHeld) }
+    {
+        self.holds(token)
+            .then_some(token.root)
+            .ok_or(StoreFault::NotHeld)
     }
 
     // A new frame for an error of the host.
@@ -94,42 +101,26 @@ impl Store {
         ensures { FrameMade self.old self.new (H.Host.errors host.now) error place result }
     {
         host.kind(error)?;
-        match self.frames.begin(FrameError::Host(error), place) {
-            Some(root) => Ok(root),
-            None => Err(StoreFault::NoFrames(1)),
-        }
-    }
-
-    // Makes the reports of a basket's row the last children of a root.
-    pub(crate) fn join_row(&mut self, root: u16, head: Option<u16>)
-        requires live { is_some ((ledger_of self.old).reports root) ≡ true }
-        requires begun { is_row (ledger_of self.old) head ≡ true }
-        ensures { Became self.old self.new (chained_all (ledger_of self.old) root head) }
-    {
-        let Some(head) = head else {
-            return;
-        };
-        self.frames.join_row(root, head);
+        self.frames
+            .begin(FrameError::Host(error), place)
+            .ok_or(StoreFault::NoFrames(1))
     }
 
     // Puts a report at the end of a basket's row, and answers the root of the row's first report.
+    #[tactic(auto, using(crate::proofs::Baskets::basket_row, crate::proofs::Baskets::longer_last, crate::proofs::Baskets::collects))]
     pub(crate) fn push(&mut self, head: Option<u16>, root: u16) -> u16
         requires begun { is_row (ledger_of self.old) head ≡ true }
-        requires live { is_some ((ledger_of self.old).reports root) ≡ true }
+        requires live { is_report (ledger_of self.old) root ≡ true }
         ensures became { Became self.old self.new (collected (ledger_of self.old) head root) }
         ensures first { Some result ≡ first_root (longer (ledger_of self.old) head root) }
     {
-        let Some(head) = head else {
-            self.frames.row_of(root);
-            return root;
-        };
-        self.frames.push(head, root);
-        head
+        self.frames.append(head, root)
     }
 
     // Takes the first report out of a row, and answers the root of the next.
+    #[tactic(auto, using(crate::proofs::Baskets::takes, crate::proofs::Baskets::first_is))]
     pub(crate) fn pop(&mut self, head: u16) -> Option<u16>
-        requires { is_some ((ledger_of self.old).rows head) ≡ true }
+        requires { is_row (ledger_of self.old) (Some head) ≡ true }
         ensures became { Became self.old self.new (taken (ledger_of self.old) (Some head) (row_of (ledger_of self.old) (Some head))) }
         ensures first { Some head ≡ first_root (row_of (ledger_of self.old) (Some head)) }
         ensures rest { result ≡ first_root (rest_of (Some (row_of (ledger_of self.old) (Some head)))) }

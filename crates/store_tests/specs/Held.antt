@@ -1,9 +1,8 @@
--- A report or basket, or none, of a store.
+-- A report or basket, or none, of a store. A test and no `ForSome`, by which the calls of cross.rt are not proved.
 use Rattle.std.specs.Prelude.{Bool, true, Some, None, Option}
 use Rattle.store.specs.Calls.{basket_held, report_held}
 use Rattle.store.specs.declared.store.Store.{Store}
-use Rattle.store.specs.declared.token.Basket.{Basket}
-use Rattle.store.specs.declared.token.Exn.{Exn}
+use Rattle.store.specs.Token.{Basket, Exn}
 
 abbrev pub report_kept : Store → Option Exn → Bool
 report_kept s None = true

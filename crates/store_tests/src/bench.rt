@@ -1,4 +1,5 @@
-ghost use Rattle.std.specs.Prelude.{◌≡◌, true};
+ghost use Rattle.std.specs.Prelude.{◌≡◌, true, cond, is_none, Ok, Err};
+ghost use Rattle.vocabulary.specs.declared.fault.StoreFault.TheVariants.{NotHeld};
 ghost use Rattle.store_tests.specs.Held.{basket_kept, report_kept};
 
 use drive_host::drive::DriveHost;
@@ -6,7 +7,8 @@ use store::store::Store;
 use store::token::{Basket, Exn, Refusal};
 use vocabulary::fault::StoreFault;
 
-// A store with at most one report and one basket. Both are discarded where it is let go.
+// A store with at most one report and one basket. Both are discarded where it is let go. Its calls take error and place one
+// by one, as the store's do.
 pub struct Bench {
     pub(crate) number: u32,
     pub(crate) store: Store,
@@ -26,18 +28,19 @@ impl Drop for Bench {
             basket,
         } = self;
         if let Some(report) = report {
-            match report.discard(&mut store) {
-                Ok(()) => {}
-                Err(_) => unreachable(),
-            }
+            report.discard(&mut store).unwrap();
         }
         if let Some(basket) = basket {
-            match basket.discard(&mut store) {
-                Ok(()) => {}
-                Err(_) => unreachable(),
-            }
+            basket.discard(&mut store).unwrap();
         }
     }
+}
+
+// Refuses where a place is taken.
+fn vacant<T>(place: &Option<T>) -> Result<(), StoreFault>
+    ensures { result ≡ cond (is_none place.now) (Ok tt) (Err NotHeld) }
+{
+    place.is_none().then_some(()).ok_or(StoreFault::NotHeld)
 }
 
 impl Bench {
@@ -56,19 +59,17 @@ impl Bench {
 
     // A new report, where there is none.
     pub fn begin(&mut self, error: u16, place: u32) -> Result<(), StoreFault> {
-        if self.report.is_some() {
-            return Err(StoreFault::NotHeld);
-        }
+        vacant(&self.report)?;
         let report = Exn::new(&mut self.store, &DriveHost, error, place)?;
         self.report = Some(report);
         Ok(())
     }
 
     // A new root over the report.
+    #[tactic(auto, using(crate::proofs::Over::number_stays, crate::proofs::Over::report_kept, crate::proofs::Over::basket_stays))]
     pub fn raise(&mut self, error: u16, place: u32) -> Result<(), StoreFault> {
-        let Some(report) = self.report.take() else {
-            return Err(StoreFault::NotHeld);
-        };
+        let report = self.report.take().ok_or(StoreFault::NotHeld)?;
+        // Each arm keeps a value in its place, so no method of `Result` serves, here and in `raise_all`.
         match report.raise(&mut self.store, &DriveHost, error, place) {
             Ok(raised) => {
                 self.report = Some(raised);
@@ -83,41 +84,22 @@ impl Bench {
 
     // A new report becomes the last child of the report's root.
     pub fn chain(&mut self, error: u16, place: u32) -> Result<(), StoreFault> {
-        let Some(report) = self.report.take() else {
-            return Err(StoreFault::NotHeld);
-        };
-        match Exn::new(&mut self.store, &DriveHost, error, place) {
-            Ok(other) => {
-                match report.chain(&mut self.store, other) {
-                    Ok(()) => {}
-                    Err(_) => unreachable(),
-                }
-                self.report = Some(report);
-                Ok(())
-            }
-            Err(fault) => {
-                self.report = Some(report);
-                Err(fault)
-            }
-        }
+        let report = self.report.as_ref().ok_or(StoreFault::NotHeld)?;
+        let other = Exn::new(&mut self.store, &DriveHost, error, place)?;
+        report.chain(&mut self.store, other).unwrap();
+        Ok(())
     }
 
     // Discards the report.
     pub fn discard(&mut self) -> Result<(), StoreFault> {
-        let Some(report) = self.report.take() else {
-            return Err(StoreFault::NotHeld);
-        };
-        match report.discard(&mut self.store) {
-            Ok(()) => Ok(()),
-            Err(_) => unreachable(),
-        }
+        let report = self.report.take().ok_or(StoreFault::NotHeld)?;
+        report.discard(&mut self.store).unwrap();
+        Ok(())
     }
 
     // An empty basket, where there is none.
     pub fn open(&mut self) -> Result<(), StoreFault> {
-        if self.basket.is_some() {
-            return Err(StoreFault::NotHeld);
-        }
+        vacant(&self.basket)?;
         let basket = self.store.basket();
         self.basket = Some(basket);
         Ok(())
@@ -125,46 +107,26 @@ impl Bench {
 
     // Puts the report into the basket.
     pub fn collect(&mut self) -> Result<(), StoreFault> {
-        let Some(mut basket) = self.basket.take() else {
-            return Err(StoreFault::NotHeld);
-        };
+        let basket = self.basket.as_mut().ok_or(StoreFault::NotHeld)?;
         if let Some(report) = self.report.take() {
-            match basket.collect(&mut self.store, report) {
-                Ok(()) => {}
-                Err(_) => unreachable(),
-            }
+            basket.collect(&mut self.store, report).unwrap();
         }
-        self.basket = Some(basket);
         Ok(())
     }
 
     // Takes the first report out of the basket, where there is none outside, and answers whether there was one.
     pub fn take(&mut self) -> Result<bool, StoreFault> {
-        if self.report.is_some() {
-            return Err(StoreFault::NotHeld);
-        }
-        let Some(mut basket) = self.basket.take() else {
-            return Err(StoreFault::NotHeld);
-        };
-        match basket.take(&mut self.store) {
-            Ok(report) => {
-                let some = report.is_some();
-                self.report = report;
-                self.basket = Some(basket);
-                Ok(some)
-            }
-            Err(_) => unreachable(),
-        }
+        vacant(&self.report)?;
+        let basket = self.basket.as_mut().ok_or(StoreFault::NotHeld)?;
+        let report = basket.take(&mut self.store).unwrap();
+        self.report = report;
+        Ok(self.report.is_some())
     }
 
     // A new root over all reports of the basket, where there is no report outside.
     pub fn raise_all(&mut self, error: u16, place: u32) -> Result<(), StoreFault> {
-        if self.report.is_some() {
-            return Err(StoreFault::NotHeld);
-        }
-        let Some(basket) = self.basket.take() else {
-            return Err(StoreFault::NotHeld);
-        };
+        vacant(&self.report)?;
+        let basket = self.basket.take().ok_or(StoreFault::NotHeld)?;
         match Exn::raise_all(&mut self.store, &DriveHost, basket, error, place) {
             Ok(raised) => {
                 self.report = Some(raised);
@@ -179,45 +141,26 @@ impl Bench {
 
     // The reports of the basket become the last children of the report's root.
     pub fn chain_all(&mut self) -> Result<(), StoreFault> {
-        let Some(report) = self.report.take() else {
-            return Err(StoreFault::NotHeld);
-        };
+        let report = self.report.as_ref().ok_or(StoreFault::NotHeld)?;
         if let Some(basket) = self.basket.take() {
-            match report.chain_all(&mut self.store, basket) {
-                Ok(()) => {}
-                Err(_) => unreachable(),
-            }
+            report.chain_all(&mut self.store, basket).unwrap();
         }
-        self.report = Some(report);
         Ok(())
     }
 
     // Discards the basket.
     pub fn discard_all(&mut self) -> Result<(), StoreFault> {
-        let Some(basket) = self.basket.take() else {
-            return Err(StoreFault::NotHeld);
-        };
-        match basket.discard(&mut self.store) {
-            Ok(()) => Ok(()),
-            Err(_) => unreachable(),
-        }
+        let basket = self.basket.take().ok_or(StoreFault::NotHeld)?;
+        basket.discard(&mut self.store).unwrap();
+        Ok(())
     }
 
     // Moves the children of the report's root into a basket, where there is none.
     pub fn drain(&mut self) -> Result<(), StoreFault> {
-        if self.basket.is_some() {
-            return Err(StoreFault::NotHeld);
-        }
-        let Some(report) = self.report.take() else {
-            return Err(StoreFault::NotHeld);
-        };
-        match report.drain_children(&mut self.store) {
-            Ok(basket) => {
-                self.report = Some(report);
-                self.basket = Some(basket);
-                Ok(())
-            }
-            Err(_) => unreachable(),
-        }
+        vacant(&self.basket)?;
+        let report = self.report.as_ref().ok_or(StoreFault::NotHeld)?;
+        let basket = report.drain_children(&mut self.store).unwrap();
+        self.basket = Some(basket);
+        Ok(())
     }
 }

@@ -19,16 +19,13 @@ fn fill(bench: &mut Bench) -> Result<(), StoreFault> {
 
 // The frames that are free before and after each report of the basket is taken and discarded.
 fn empty(bench: &mut Bench) -> Result<[usize; 4], StoreFault> {
-    let start = bench.free();
-    bench.take()?;
-    bench.discard()?;
-    let first = bench.free();
-    bench.take()?;
-    bench.discard()?;
-    let second = bench.free();
-    bench.take()?;
-    bench.discard()?;
-    Ok([start, first, second, bench.free()])
+    let mut free = [bench.free(); 4];
+    for after in &mut free[1..] {
+        bench.take()?;
+        bench.discard()?;
+        *after = bench.free();
+    }
+    Ok(free)
 }
 
 #[test]

@@ -1,4 +1,5 @@
 -- What waits in a list, as entries of the listing.
+use Rattle.std.proofs.lemmas.Bool.Decides.{nat_tests}
 use Rattle.std.proofs.Common.{◌≡◌, ℕ, List, [], ◌∷◌, ◌++◌, map, Some, None, Option, sym, refl, ap, ◌∙◌, ap₂, arith}
 use Rattle.std.proofs.lemmas.List.{map-append}
 use Rattle.vocabulary.specs.declared.frame_error.FrameError.{FrameError}
@@ -39,7 +40,7 @@ module _ (h : Errors) (span : ℕ) (l : Lawful h span) where
   sources-step e d s = go (h e) refl s
     where
       go : (o : Option Error) → h e ≡ o → source_of o ≡ Some d → sources h e ≡ d ∷ sources h d
-      go None q z = absurd (let y : ◌≡◌ {A = ℕ} 0 1 = cc in omega arith)
+      go None q z = absurd cc
       go (Some m) q z =
           let v = live-told (h d) (l.lives e d m q z) in
           ap (chain_from h) s ∙ chain_is h span l d v.0 v.1 ∙ sym (ap (λ (o : Option Error). d ∷ chain_from h (source_of o)) v.1)
@@ -49,7 +50,7 @@ module _ (h : Errors) (span : ℕ) (l : Lawful h span) where
   natives-under i p d = go (source_of (h d)) refl
     where
       go : (o : Option ℕ) → source_of (h d) ≡ o → map (entry_in h) (from_source i p (source_of (h d))) ≡ under (Some i) (natives p (sources h d))
-      go None q = ap (λ (o : Option ℕ). map (entry_in h) (from_source i p o)) q ∙ sym (ap (λ (o : Option ℕ). under (Some i) (natives p (chain_from h o))) q)
+      go None q = grind (arith, nat_tests)
       go (Some s) q = ap (λ (o : Option ℕ). map (entry_in h) (from_source i p o)) q ∙ sym (ap (λ (ds : List ℕ). under (Some i) (natives p ds)) (sources-step d s q))
 
   error_under : (i p : ℕ) (e : FrameError) → map (entry_in h) (from_source i p (error_source h e)) ≡ under (Some i) (natives p (sources_of h e))

@@ -1,6 +1,8 @@
 -- The nodes that are appended beneath one.
-use Rattle.std.proofs.Common.{◌≡◌, ℕ, ◌+◌, ◌<◌, ◌≤◌, true, false, List, [], ◌∷◌, ◌++◌, map, length, get_or, take, drop, set, Some, None, Option, sym, refl, ap, ◌∙◌, subst, ap₂, ⊎_elim, append_assoc, arith}
-use Rattle.std.proofs.lemmas.List.{append-nil, length-append, length-map, length-take-le, map-append, drop_all, drop_more, get_or-map, get_or-take}
+use Rattle.std.proofs.lemmas.Grind.{common_steps}
+use Rattle.std.proofs.Common.{◌≡◌, ℕ, ◌+◌, ◌<◌, ◌≤◌, Bool, true, false, not, eqb, List, [], ◌∷◌, ◌++◌, map, length, get_or, drop, set, Some, None, Option, sym, refl, ap, ◌∙◌, subst, ap₂, ⊎_elim, append_assoc, arith}
+use Rattle.std.proofs.lemmas.List.{append-nil, length-append, length-map, map-append, drop_more, get_or-map}
+use Rattle.std.specs.Option.{option_eq}
 use Rattle.std.proofs.lemmas.Bool.{cases_lt, eq-eqb, true≢false}
 use Rattle.trees.specs.Trees.{Forest, empty, tree}
 use Rattle.nodes.specs.declared.node.Node.{Node}
@@ -16,9 +18,6 @@ use Rattle.traversal.specs.Walk.{unvisited}
 use Rattle.traversal.proofs.Puts.{put_none, put_more}
 
 -- the source of a node
-pub source-none : (before : List Node) (start i p : ℕ) (o r : Option ℕ) → r ≡ o → r ≡ None → Put before before start start (map wait_node (from_source i p o))
-source-none before start i p o r q e = subst (λ (x : Option ℕ). Put before before start start (map wait_node (from_source i p x))) (sym e ∙ q) (put_none before start)
-
 pub source_some : (before : List Node) (start i p : ℕ) (o r : Option ℕ) (d : ℕ) → r ≡ o → r ≡ Some d → start + length (from_source i p o) ≤ length before
     → Put before (set before start (wait_node (of_source (Some i) d p))) start (start + 1) (map wait_node (from_source i p o))
 source_some before start i p o r d q e room =
@@ -31,39 +30,44 @@ pub forest-length : (i o : ℕ) (c : Forest) → length (from_forest i o c) ≡ 
 forest-length i o empty = refl
 forest-length i o (tree e p c r) = let h = forest-length i o r in omega arith
 
+-- what a test of a visit's parent says
+pub parented : (o : ℕ) (p : Option ℕ) (b : Bool) → b ≡ not (option_eq eqb p (Some o)) → is_parent o p ≡ not b
+parented o None b q = sym (ap not q)
+parented o (Some i) b q = turn (eqb i o) q
+  where
+    turn : (x : Bool) → b ≡ not x → x ≡ not b
+    turn true q = sym (ap not q)
+    turn false q = sym (ap not q)
+
 -- the next of the order is what stands there
-pub record Reads (order : List Visit) (count at : ℕ) (x : Item FrameContent) : Type 0 where
-  pub below : at < count
+pub record Reads (order : List Visit) (at : ℕ) (x : Item FrameContent) : Type 0 where
+  pub below : at < length order
   pub is : visited (get_or order at unvisited) ≡ x
 
-module _ (order : List Visit) (count : ℕ) (long : length order ≡ 1024) (le : count ≤ 1024) where
+module _ (order : List Visit) where
   abbrev pub ordered : List (Item FrameContent)
-  ordered = map visited (take count order)
+  ordered = map visited order
 
-  pub ordered_long : length ordered ≡ count
-  ordered_long = length-map (take count order) visited ∙ length-take-le count order (omega arith)
-
-  pub drop_order : (at : ℕ) → at < count → drop at ordered ≡ visited (get_or order at unvisited) ∷ drop (at + 1) ordered
+  pub drop_order : (at : ℕ) → at < length order → drop at ordered ≡ visited (get_or order at unvisited) ∷ drop (at + 1) ordered
   drop_order at lt =
-      let l = ordered_long in
-      let m : length (take count order) ≡ count = length-take-le count order (omega arith) in
+      let l = length-map order visited in
       drop_more ordered at (visited unvisited) (omega arith)
-      ∙ ap (λ (x : Item FrameContent). x ∷ drop (at + 1) ordered) (get_or-map visited (take count order) at unvisited (visited unvisited) (omega arith) ∙ ap visited (get_or-take count order at unvisited lt))
+      ∙ ap (λ (x : Item FrameContent). x ∷ drop (at + 1) ordered) (get_or-map visited order at unvisited (visited unvisited) lt)
 
-  pub reads : (at : ℕ) (x : Item FrameContent) (xs : List (Item FrameContent)) → drop at ordered ≡ x ∷ xs → Reads order count at x
-  reads at x xs e = ⊎_elim yes no (cases_lt at count)
+  pub reads : (at : ℕ) (x : Item FrameContent) (xs : List (Item FrameContent)) → drop at ordered ≡ x ∷ xs → Reads order at x
+  reads at x xs e = ⊎_elim yes no (cases_lt at (length order))
     where
-      yes : at < count → Reads order count at x
+      yes : at < length order → Reads order at x
       yes lt = record { below = lt; is = let q : visited (get_or order at unvisited) ∷ drop (at + 1) ordered ≡ x ∷ xs = sym (drop_order at lt) ∙ e in cc }
 
-      no : count ≤ at → Reads order count at x
-      no ge = absurd (let q : [] ≡ x ∷ xs = sym (drop_all at ordered (let l = ordered_long in omega arith)) ∙ e in let z : ◌≡◌ {A = ℕ} 0 1 = cc in omega arith)
+      no : length order ≤ at → Reads order at x
+      no ge = grind (arith, common_steps)
 
-  module _ (before : List Node) (i o from start : ℕ) (c : Forest) (n : NextFrames ordered from o c) (room : start + trees c ≤ length before) where
-    pub listing_none : Listing ordered before before i o from from start start c
-    listing_none = record { done = []; rest = c; is = refl; next = n; put = put_none before start; moved = omega arith }
+  module _ (before : List Node) (i o start : ℕ) (c : Forest) (room : start + trees c ≤ length before) where
+    pub listing_none : NextFrames ordered o c → Listing (drop 0 ordered) before before i o start start c
+    listing_none n = record { done = []; rest = c; is = refl; next = n; put = put_none before start }
 
-    module _ (now : List Node) (at stop : ℕ) (t : Listing ordered before now i o from at start stop c) where
+    module _ (now : List Node) (at stop : ℕ) (t : Listing (drop at ordered) before now i o start stop c) where
       sums : length t.done + trees t.rest ≡ trees c
       sums =
           let a = forest-length i o c in
@@ -73,16 +77,25 @@ module _ (order : List Visit) (count : ℕ) (long : length order ≡ 1024) (le :
           omega arith
 
       stops : stop ≡ start + length t.done
-      stops = let a = t.put.ends in let b = length-map t.done wait_node in omega arith
+      stops = grind (arith, common_steps)
+
+      pub within : stop ≤ length before
+      within =
+          let a = sums in
+          let b = stops in
+          omega arith
 
       -- a frame with this parent comes next
       pub record More (v : Visit) : Type 0 where
         pub below : stop < length before
-        pub listing : Listing ordered before (set now stop (listed (record { parent = Some i; value = frame v.error v.place }))) i o from (at + 1) start (stop + 1) c
+        pub listing : Listing (drop (at + 1) ordered) before (set now stop (listed (record { parent = Some i; value = frame v.error v.place }))) i o start (stop + 1) c
 
-      pub listing_more : at < count → is_parent o (get_or order at unvisited).parent ≡ true → More (get_or order at unvisited)
-      listing_more lt child = go t.rest refl
+      pub listing_more : at < length order → false ≡ not (option_eq eqb (get_or order at unvisited).parent (Some o)) → More (get_or order at unvisited)
+      listing_more lt tested = go t.rest refl
         where
+          child : is_parent o (get_or order at unvisited).parent ≡ true
+          child = parented o (get_or order at unvisited).parent false tested
+
           v : Visit
           v = get_or order at unvisited
 
@@ -93,7 +106,7 @@ module _ (order : List Visit) (count : ℕ) (long : length order ≡ 1024) (le :
               bare [] q =
                   let z : drop at ordered ≡ [] = t.next.are ∙ ap₂ (λ (f : Forest) (ys : List (Item FrameContent)). map item (under (Some o) (frame_rows f)) ++ ys) e q in
                   let y : visited (get_or order at unvisited) ∷ drop (at + 1) ordered ≡ [] = sym (drop_order at lt) ∙ z in
-                  let w : ◌≡◌ {A = ℕ} 0 1 = cc in omega arith
+                  cc
               bare (x ∷ xs) q =
                   let z : drop at ordered ≡ x ∷ xs = t.next.are ∙ ap₂ (λ (f : Forest) (ys : List (Item FrameContent)). map item (under (Some o) (frame_rows f)) ++ ys) e q in
                   let r : visited (get_or order at unvisited) ≡ x = (reads at x xs z).is in
@@ -110,7 +123,6 @@ module _ (order : List Visit) (count : ℕ) (long : length order ≡ 1024) (le :
               let s2 : trees t.rest ≡ trees r + 1 = ap trees q in
               let s3 = stops in
               let l = length-append t.done (w ∷ []) in
-              let m = t.moved in
               record {
                 below = omega arith;
                 listing = record {
@@ -125,7 +137,6 @@ module _ (order : List Visit) (count : ℕ) (long : length order ≡ 1024) (le :
                   put = subst (λ (y : List Node). Put before (set now stop (listed (record { parent = Some i; value = frame (get_or order at unvisited).error (get_or order at unvisited).place }))) start (stop + 1) y) (sym (map-append wait_node t.done (w ∷ [])))
                       (subst (λ (y : Node). Put before (set now stop y) start (stop + 1) (map wait_node t.done ++ (wait_node w ∷ []))) x
                       (put_more blank_node before now start stop (map wait_node t.done) (wait_node w) t.put (omega arith) (omega arith)));
-                  moved = omega arith;
                 };
               }
             where
@@ -133,7 +144,7 @@ module _ (order : List Visit) (count : ℕ) (long : length order ≡ 1024) (le :
               tail_is a b = let q = sym b ∙ a in cc
 
       -- none with this parent comes next
-      ended : (at < count → is_parent o (get_or order at unvisited).parent ≡ false) → t.rest ≡ empty
+      ended : (at < length order → is_parent o (get_or order at unvisited).parent ≡ false) → t.rest ≡ empty
       ended other = go t.rest refl
         where
           go : (rest : Forest) → t.rest ≡ rest → t.rest ≡ empty
@@ -144,13 +155,13 @@ module _ (order : List Visit) (count : ℕ) (long : length order ≡ 1024) (le :
               let d = reads at _ _ z in
               absurd (true≢false (sym (eq-eqb o o refl) ∙ sym (ap (λ (y : Item FrameContent). is_parent o y.parent) d.is) ∙ other d.below))
 
-      pub listing_all : (at < count → is_parent o (get_or order at unvisited).parent ≡ false) → Put before now start (start + trees c) (map wait_node (from_forest i o c)) × (at ≡ from + trees c)
-      listing_all other =
-          let e = ended other in
-          let all : t.done ≡ from_forest i o c = sym (t.is ∙ ap (λ (f : Forest). t.done ++ from_forest i o f) e ∙ append-nil t.done) in
-          let s = sums in
-          let z : trees t.rest ≡ 0 = ap trees e in
-          let u = stops in
-          let m = t.moved in
-          let w : stop ≡ start + trees c = omega arith in
-          (subst (λ (y : List Wait). Put before now start (start + trees c) (map wait_node y)) all (subst (λ (y : ℕ). Put before now start y (map wait_node t.done)) w t.put), omega arith)
+      all_listed : (at < length order → is_parent o (get_or order at unvisited).parent ≡ false) → Put before now start stop (map wait_node (from_forest i o c))
+      all_listed other =
+          let all : t.done ≡ from_forest i o c = sym (t.is ∙ ap (λ (f : Forest). t.done ++ from_forest i o f) (ended other) ∙ append-nil t.done) in
+          subst (λ (y : List Wait). Put before now start stop (map wait_node y)) all t.put
+
+      pub listing_stop : true ≡ not (option_eq eqb (get_or order at unvisited).parent (Some o)) → Put before now start stop (map wait_node (from_forest i o c))
+      listing_stop tested = all_listed (λ lt. parented o (get_or order at unvisited).parent true tested)
+
+      pub listing_all : length order ≤ at → Put before now start stop (map wait_node (from_forest i o c))
+      listing_all le = all_listed (λ lt. absurd (omega arith))

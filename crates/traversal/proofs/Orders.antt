@@ -7,17 +7,13 @@ use Rattle.nodes.specs.Rows.{Rows, none, node, count}
 use Rattle.nodes.specs.Breadth.{Item, Entry, item, under, below, is_parent}
 use Rattle.nodes.specs.Nodes.{FrameContent, frame_rows}
 use Rattle.nodes.specs.Queue.{queue, weight}
-use Rattle.nodes.proofs.Queue.{queue_front, weight_append, weight-below}
+use Rattle.nodes.proofs.Queue.{queue_front, weight_append, weight-below, weight-length}
 use Rattle.traversal.specs.Spread.{trees, NotUnder, NextFrames, InOrder}
 
 module _ {A : Type 0} where
   pub under-length : (o : Option ℕ) (r : Rows A) → length (under o r) ≤ count r
   under-length o none = omega arith
   under-length o (node v c r) = let h = under-length o r in omega arith
-
-  pub weight-length : (ws : List (Entry A)) → length ws ≤ weight ws
-  weight-length [] = omega arith
-  weight-length (w ∷ ws) = let h = weight-length ws in omega arith
 
   below_append : (n : ℕ) (a b : List (Entry A)) → below n (a ++ b) ≡ below n a ++ below (n + length a) b
   below_append n [] b = ap (λ (m : ℕ). below m b) (omega arith)
@@ -48,7 +44,7 @@ apart_queue o zero n ws p = tt
 apart_queue o (suc f) n [] p = tt
 apart_queue o (suc f) n (w ∷ ws) p = p
 
-rows-length : (o : Option ℕ) (c : Forest) → length (under o (frame_rows c)) ≡ trees c
+pub rows-length : (o : Option ℕ) (c : Forest) → length (under o (frame_rows c)) ≡ trees c
 rows-length o empty = refl
 rows-length o (tree e p c r) = let h = rows-length o r in omega arith
 
@@ -82,7 +78,7 @@ module _ (ys : List (Item FrameContent)) (past shown : ℕ) (w : Entry FrameCont
   later = let a = o.counted in omega arith
 
   -- the next frames are the children of the first entry
-  pub next_frames : NextFrames ys shown past c
+  pub next_frames : NextFrames (drop shown ys) past c
   unfolding kids rest
   next_frames = record {
     rest = queue left (shown + length (under (Some past) (frame_rows c))) (below (past + 1) ws ++ below shown (under (Some past) (frame_rows c)));

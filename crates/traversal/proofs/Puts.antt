@@ -1,6 +1,7 @@
 -- Writing elements one after the other.
+use Rattle.std.proofs.lemmas.Grind.{common_steps}
 use Rattle.std.proofs.Common.{◌≡◌, ℕ, ◌+◌, ◌<◌, ◌≤◌, List, [], ◌∷◌, ◌++◌, length, take, drop, set, sym, ap, ◌∙◌, ap₂, append_assoc, arith}
-use Rattle.std.proofs.lemmas.List.{length-append, length-take-le, drop_at, drop-drop, drop_more, set_at, take-append-drop, take_at}
+use Rattle.std.proofs.lemmas.List.{length-append, drop_at, drop-drop, drop_more, set_at, take-append-drop, take_at}
 use Rattle.traversal.specs.Put.{Put}
 
 module _ {A : Type 0} where
@@ -9,7 +10,7 @@ module _ {A : Type 0} where
 
   -- what stands before the end of what is written
   front_long : (before new : List A) (start stop : ℕ) → start ≤ length before → stop ≡ start + length new → length (take start before ++ new) ≡ stop
-  front_long before new start stop le e = length-append (take start before) new ∙ (let a = length-take-le start before le in omega arith)
+  front_long before new start stop le e = grind (arith, common_steps)
 
   -- one element more; the element that stood there is `x`
   pub put_more : (default : A) (before now : List A) (start stop : ℕ) (new : List A) (y : A) → Put before now start stop new → start ≤ length before → stop < length before

@@ -1,6 +1,8 @@
 -- The steps of a flattening.
+use Rattle.std.proofs.lemmas.Grind.{common_steps}
+use Rattle.std.proofs.lemmas.Bool.Decides.{nat_tests}
 use Rattle.std.proofs.Common.{◌≡◌, ℕ, zero, suc, ◌+◌, ◌<◌, ◌≤◌, List, [], ◌∷◌, ◌++◌, map, length, get_or, take, drop, set, Some, None, sym, refl, ap, ◌∙◌, subst, ap₂, append_assoc, add-zero, add-one, arith}
-use Rattle.std.proofs.lemmas.List.{append-nil, length-append, length-map, length-set, length-take-le, map-append, drop_at, drop-drop, drop_more, drop-set-lt, get_or_at, get_or-set_same, take_at}
+use Rattle.std.proofs.lemmas.List.{append-nil, length-append, length-map, length-set, map-append, drop_at, drop-drop, drop_more, get_or_at, get_or-set_same, take_at}
 use Rattle.model.specs.Host.{Errors, Lawful}
 use Rattle.trees.specs.Trees.{Tree, only}
 use Rattle.nodes.specs.declared.node.Node.{Node}
@@ -9,7 +11,7 @@ use Rattle.nodes.specs.Breadth.{Item, Entry, item, under}
 use Rattle.nodes.specs.Flattening.{flattening, frame_list, listed}
 use Rattle.nodes.specs.Nodes.{Content, FrameContent, frame, frame_rows, nodes_of}
 use Rattle.nodes.specs.Queue.{queue, weight}
-use Rattle.nodes.proofs.Queue.{breadth_queue, weight_append, weight-under}
+use Rattle.nodes.proofs.Queue.{weight-length, breadth_queue, weight_append, weight-under}
 use Rattle.traversal.specs.declared.flatten.Progress.{Progress}
 use Rattle.traversal.specs.declared.order.Visit.{Visit}
 use Rattle.traversal.specs.Order.{visited}
@@ -18,7 +20,7 @@ use Rattle.traversal.specs.Start.{blank_node}
 use Rattle.traversal.specs.Walk.{unvisited}
 use Rattle.traversal.proofs.Lists.{reads as reads-order}
 use Rattle.traversal.proofs.Entries.{born-under, frames_append, frames-forest, frames-source}
-use Rattle.traversal.proofs.Orders.{in_order, next_frames, under-length, weight-length}
+use Rattle.traversal.proofs.Orders.{in_order, next_frames, under-length}
 
 -- the root of a tree waits
 abbrev pub root_of : Tree → Wait
@@ -29,8 +31,8 @@ wait_item : (h : Errors) (w : Wait) → listed (item (entry_in h w)) ≡ wait_no
 wait_item h (of_source i d p) = refl
 wait_item h (of_frame i o e p c) = refl
 
-module _ (h : Errors) (span : ℕ) (l : Lawful h span) (ys : List (Item FrameContent)) (few : length ys ≤ 1024) (before : List Node) (total : ℕ) (root : Wait) (room : total ≤ length before) where
-  module _ (now : List Node) (i : ℕ) (at : Progress) (s : Spread h ys before now total i at root) (lt : i < total) where
+module _ (h : Errors) (span : ℕ) (l : Lawful h span) (ys : List (Item FrameContent)) (before : List Node) (root : Wait) where
+  module _ (now : List Node) (i : ℕ) (at : Progress) (s : Spread h ys before now i at root) (lt : i < length before) where
     -- the first that waits
     pub record Head : Type 0 where
       pub head : Wait
@@ -41,7 +43,7 @@ module _ (h : Errors) (span : ℕ) (l : Lawful h span) (ys : List (Item FrameCon
     headed = go s.waiting refl
       where
         go : (q : List Wait) → s.waiting ≡ q → Head
-        go [] e = absurd (let a : weight (map (entry_in h) s.waiting) ≡ 0 = ap (λ (q : List Wait). weight (map (entry_in h) q)) e in let b = s.loaded in let c = s.falls in omega arith)
+        go [] e = grind (arith, nat_tests)
         go (w ∷ q) e = record { head = w; rest = q; is = e }
 
     pub w : Wait
@@ -76,7 +78,7 @@ module _ (h : Errors) (span : ℕ) (l : Lawful h span) (ys : List (Item FrameCon
     order : InOrder ys at.past at.shown (frames_in (w ∷ q))
     order = subst (λ (x : List Wait). InOrder ys at.past at.shown (frames_in x)) is s.order
 
-    next_below : (v : Wait) → InOrder ys at.past at.shown (frames_in (v ∷ q)) → NextBelow ys at.shown at.past v
+    next_below : (v : Wait) → InOrder ys at.past at.shown (frames_in (v ∷ q)) → NextBelow (drop at.shown ys) at.past v
     next_below (of_source j d p) o = tt
     next_below (of_frame j k e p c) o = next_frames ys at.past at.shown _ (frames_in q) c refl o
 
@@ -90,7 +92,7 @@ module _ (h : Errors) (span : ℕ) (l : Lawful h span) (ys : List (Item FrameCon
         let f = length-map q (entry_in h) in
         let g = order.counted in
         let k = order.within in
-        record { is = reads; next = next_below w order; room = omega arith; few = omega arith }
+        record { is = reads; next = next_below w order; room = omega arith; past = omega arith; shown = k }
 
     order_after : (v : Wait) (to : Progress) → InOrder ys at.past at.shown (frames_in (v ∷ q)) → (after : List Node) → Grown h now after i at to v
         → InOrder ys to.past to.shown (frames_in (q ++ born h i at.past v))
@@ -112,7 +114,7 @@ module _ (h : Errors) (span : ℕ) (l : Lawful h span) (ys : List (Item FrameCon
     front_is : now ≡ (s.done ++ (wait_node w ∷ map wait_node q)) ++ drop at.stop before
     front_is = now_is ∙ sym (append_assoc s.done (wait_node w ∷ map wait_node q) (drop at.stop before))
 
-    pub spread_more : (after : List Node) (to : Progress) → Grown h now after i at to w → Spread h ys before after total (i + 1) to root
+    pub spread_more : (after : List Node) (to : Progress) → Grown h now after i at to w → Spread h ys before after (i + 1) to root
     unfolding queue
     spread_more after to g = go s.left refl
       where
@@ -125,7 +127,7 @@ module _ (h : Errors) (span : ℕ) (l : Lawful h span) (ys : List (Item FrameCon
             ap (λ (x : ℕ). drop x now) g.put.ends ∙ sym (drop-drop n at.stop now) ∙ ap (λ (x : List Node). drop n (drop at.stop x)) front_is
             ∙ ap (drop n) (drop_at (s.done ++ (wait_node w ∷ map wait_node q)) (drop at.stop before) at.stop front_long) ∙ drop-drop n at.stop before ∙ ap (λ (x : ℕ). drop x before) (sym g.put.ends)
 
-        go : (f : ℕ) → s.left ≡ f → Spread h ys before after total (i + 1) to root
+        go : (f : ℕ) → s.left ≡ f → Spread h ys before after (i + 1) to root
         go zero e = absurd (let a = s.falls in omega arith)
         go (suc f) e =
             let b = born h i at.past w in
@@ -147,52 +149,45 @@ module _ (h : Errors) (span : ℕ) (l : Lawful h span) (ys : List (Item FrameCon
               order = order_after w to order after g;
             }
 
-  pub spread_all : (now : List Node) (i : ℕ) (at : Progress) → Spread h ys before now total i at root → total ≤ i → now ≡ map listed (queue total 0 (entry_in h root ∷ [])) ++ drop total before
+  pub spread_all : (now : List Node) (i : ℕ) (at : Progress) → Spread h ys before now i at root → length before ≤ i → now ≡ map listed (queue (length before) 0 (entry_in h root ∷ []))
   unfolding queue
   spread_all now i at s le = go s.waiting s.left refl refl
     where
-      go : (q : List Wait) (f : ℕ) → s.waiting ≡ q → s.left ≡ f → now ≡ map listed (queue total 0 (entry_in h root ∷ [])) ++ drop total before
+      go : (q : List Wait) (f : ℕ) → s.waiting ≡ q → s.left ≡ f → now ≡ map listed (queue (length before) 0 (entry_in h root ∷ []))
       go q (suc f) e z = absurd (let a = s.falls in omega arith)
-      go (v ∷ q) zero e z = absurd (let a : weight (map (entry_in h) s.waiting) ≡ weight (map (entry_in h) (v ∷ q)) = ap (λ (x : List Wait). weight (map (entry_in h) x)) e in let b = s.loaded in omega arith)
-      go [] zero e z =
-          let st : at.stop ≡ total = (let a = s.ends in let b : length s.waiting ≡ 0 = ap (λ (x : List Wait). length x) e in let c = s.falls in omega arith) in
-          let dn : s.done ≡ map listed (queue total 0 (entry_in h root ∷ [])) =
-          sym (append-nil s.done) ∙ sym (ap₂ (λ (f : ℕ) (q : List Wait). s.done ++ map listed (queue f i (map (entry_in h) q))) z e) ∙ s.target in
-          s.list ∙ ap₂ (λ (q : List Wait) (b : ℕ). s.done ++ (map wait_node q ++ drop b before)) e st ∙ ap (λ (x : List Node). x ++ drop total before) dn
-
--- an order has at most 1,024 frames
-pub order_few : (order : List Visit) (number : ℕ) → length order ≡ 1024 → number ≤ 1024 → length (map visited (take number order)) ≤ 1024
-order_few order number long few = let a = length-map (take number order) visited in let b = length-take-le number order (omega arith) in omega arith
+      go (v ∷ q) zero e z = grind (arith, nat_tests)
+      go [] zero e z = grind (arith, common_steps)
 
 -- the first frame of an order, and those after it
 first_frame : (t : Tree) → frame_list t ≡ record { parent = None; value = record { error = t.error; place = t.place } } ∷ queue (count (frame_rows t.children)) 1 (under (Some 0) (frame_rows t.children))
 unfolding queue
 first_frame t = breadth_queue (frame_rows (only t)) ∙ rw (add-zero, add-one) refl
 
-module _ (h : Errors) (span : ℕ) (l : Lawful h span) (order : List Visit) (number : ℕ) (long : length order ≡ 1024) (few : number ≤ 1024) (list : List Node) (total : ℕ) (t : Tree)
-    (b : Begun h (map visited (take number order)) (length list) total t) where
-  some : 1 ≤ total
-  some = let a = b.nodes in omega arith
-
+module _ (h : Errors) (span : ℕ) (l : Lawful h span) (order : List Visit) (list : List Node) (t : Tree)
+    (b : Begun h (map visited order) (length list) t) where
   pub room : 0 < length list
-  room = let a = some in let c = b.fits in omega arith
+  room = let a = b.nodes in omega arith
 
-  begins : map visited (take number order) ≡ record { parent = None; value = record { error = t.error; place = t.place } } ∷ queue (count (frame_rows t.children)) 1 (under (Some 0) (frame_rows t.children))
+  begins : map visited order ≡ record { parent = None; value = record { error = t.error; place = t.place } } ∷ queue (count (frame_rows t.children)) 1 (under (Some 0) (frame_rows t.children))
   begins = b.frames ∙ first_frame t
 
   read : visited (get_or order 0 unvisited) ≡ record { parent = None; value = record { error = t.error; place = t.place } }
-  read = (reads-order order number long few 0 _ _ begins).is
+  read = (reads-order order 0 _ _ begins).is
+
+  pub first_there : 0 < length order
+  first_there = (reads-order order 0 _ _ begins).below
 
   pub spread_none : (x : Node) → x ≡ listed (record { parent = None; value = frame (get_or order 0 unvisited).error (get_or order 0 unvisited).place })
-      → Spread h (map visited (take number order)) (set list 0 x) (set list 0 x) total 0 (record { stop = 1; past = 0; shown = 1 }) (root_of t)
+      → Spread h (map visited order) (set list 0 x) (set list 0 x) 0 (record { stop = 1; past = 0; shown = 1 }) (root_of t)
   spread_none x is =
       let same : x ≡ wait_node (root_of t) = is ∙ ap (λ (y : Item FrameContent). listed (record { parent = None; value = frame y.value.error y.value.place })) read in
       let r = room in
       let n = b.nodes in
+      let same_length = length-set list 0 x in
       record {
         done = [];
         waiting = root_of t ∷ [];
-        left = total;
+        left = length (set list 0 x);
         long = refl;
         list = drop_more (set list 0 x) 0 blank_node (simp length-set (omega arith)) ∙ ap (λ (y : Node). y ∷ drop 1 (set list 0 x)) (get_or-set_same list 0 x blank_node (omega arith) ∙ same);
         ends = refl;
@@ -204,15 +199,10 @@ module _ (h : Errors) (span : ℕ) (l : Lawful h span) (order : List Visit) (num
           order = ap (drop 1) begins ∙ ap (queue (count (frame_rows t.children)) 1) (sym (append-nil (under (Some 0) (frame_rows t.children))));
           enough = sym (ap weight (append-nil (under (Some 0) (frame_rows t.children))) ∙ weight-under (Some 0) (frame_rows t.children));
           counted = refl;
-          within = let k : length (map visited (take number order)) ≡ length (queue (count (frame_rows t.children)) 1 (under (Some 0) (frame_rows t.children))) + 1 = ap (λ (z : List (Item FrameContent)). length z) begins ∙ omega arith in omega arith;
+          within = let k : length (map visited order) ≡ length (queue (count (frame_rows t.children)) 1 (under (Some 0) (frame_rows t.children))) + 1 = ap (λ (z : List (Item FrameContent)). length z) begins ∙ omega arith in omega arith;
         };
       }
 
-  pub flat : (now : List Node) (x : Node) → now ≡ map listed (queue total 0 (entry_in h (root_of t) ∷ [])) ++ drop total (set list 0 x) → now ≡ flattening h t ++ drop total list
+  pub flat : (now : List Node) (x : Node) → now ≡ map listed (queue (length (set list 0 x)) 0 (entry_in h (root_of t) ∷ [])) → now ≡ flattening h t
   unfolding flattening
-  flat now x e =
-      let s = some in
-      let n = b.nodes in
-      e ∙ ap₂ (λ (a : List (Item Content)) (z : List Node). map listed a ++ z)
-      (ap (λ (m : ℕ). queue m 0 (entry_in h (root_of t) ∷ [])) n ∙ sym (breadth_queue (nodes_of h t)))
-      (drop-set-lt total list 0 x (omega arith))
+  flat now x e = e ∙ ap (map listed) (ap (λ (m : ℕ). queue m 0 (entry_in h (root_of t) ∷ [])) (length-set list 0 x ∙ b.nodes) ∙ sym (breadth_queue (nodes_of h t)))

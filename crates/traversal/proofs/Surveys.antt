@@ -1,11 +1,11 @@
 -- Counting the nodes of a report frame by frame.
-use Rattle.std.proofs.Common.{◌≡◌, ℕ, suc, ◌+◌, ◌<◌, ◌≤◌, cond, List, [], ◌∷◌, length, is_some, Some, None, Ok, Err, Option, sym, refl, ap, ◌∙◌, ap₂, arith}
+use Rattle.std.proofs.lemmas.Bool.Decides.{nat_tests}
+use Rattle.std.proofs.Common.{◌≡◌, ℕ, suc, ◌+◌, ◌<◌, ◌≤◌, cond, List, [], ◌∷◌, map, length, get_or, drop, is_some, Some, None, Ok, Err, Option, sym, refl, ap, ◌∙◌, subst, ap₂, arith}
 use Rattle.std.proofs.lemmas.List.{length-map}
 use Rattle.vocabulary.specs.FrameError.{error_number}
 use Rattle.vocabulary.specs.declared.frame_error.FrameError.{FrameError}
 use Rattle.vocabulary.specs.declared.frame_error.FrameError.TheVariants.{Host}
 use Rattle.vocabulary.specs.declared.fault.HostFault.{HostFault}
-use Rattle.vocabulary.specs.declared.fault.HostFault.TheVariants.{NotLive}
 use Rattle.model.specs.Host.{Error, Errors, Lawful, answer}
 use Rattle.model.specs.Sources.{chain, sources}
 use Rattle.model.proofs.Sources.{chain_short}
@@ -20,24 +20,33 @@ use Rattle.readings.specs.Folds.{CommutativeMonoid, folded}
 use Rattle.readings.specs.Readings.{errors_of, first_not_live}
 use Rattle.readings.proofs.Laws.{first_not_live_by_frames}
 use Rattle.readings.proofs.Sums.{chain-sources, errors_folded, frames-folded, over_same}
+use Rattle.traversal.specs.declared.order.Visit.{Visit}
+use Rattle.traversal.specs.Order.{visited}
+use Rattle.traversal.specs.Walk.{unvisited}
+use Rattle.traversal.proofs.Lists.{drop_order}
 use Rattle.traversal.specs.Survey.{step, survey_from, or_else, survey_of}
 
 -- a frame whose error is live
-pub goes_on : (h : Errors) (n : ℕ) (x : Item FrameContent) (xs : List (Item FrameContent)) (k : ℕ) → Ok k ≡ answer (h (error_number x.value.error)) (error_number x.value.error) (λ _. length (chain h (error_number x.value.error)))
+goes_on : (h : Errors) (n : ℕ) (x : Item FrameContent) (xs : List (Item FrameContent)) (k : ℕ) → Ok k ≡ answer (h (error_number x.value.error)) (error_number x.value.error) (λ _. length (chain h (error_number x.value.error)))
     → survey_from h (n + k) xs ≡ survey_from h n (x ∷ xs)
-goes_on h n x xs k q =
-    let e = error_number x.value.error in
-    let m = answered (h e) e (λ _. length (chain h e)) k q in
-    ap (λ (j : ℕ). survey_from h (n + j) xs) m.2 ∙ sym (ap (λ (o : Option Error). step o e (survey_from h (n + length (chain h e)) xs)) m.1)
+goes_on h n x xs k q = grind (arith, nat_tests)
 
 -- a frame whose error is not live
-pub stops : {A : Type 0} (h : Errors) (n : ℕ) (x : Item FrameContent) (xs : List (Item FrameContent)) (f : HostFault) (a : Error → A) → Err f ≡ answer (h (error_number x.value.error)) (error_number x.value.error) a
+stops : {A : Type 0} (h : Errors) (n : ℕ) (x : Item FrameContent) (xs : List (Item FrameContent)) (f : HostFault) (a : Error → A) → Err f ≡ answer (h (error_number x.value.error)) (error_number x.value.error) a
     → Err f ≡ survey_from h n (x ∷ xs)
 stops h n x xs f a q = go (h (error_number x.value.error)) q
   where
     go : (o : Option Error) → Err f ≡ answer o (error_number x.value.error) a → Err f ≡ step o (error_number x.value.error) (survey_from h (n + length (chain h (error_number x.value.error))) xs)
-    go None q = ap Err (let y : f ≡ NotLive (error_number x.value.error) = cc in y)
-    go (Some m) q = absurd (let z : ◌≡◌ {A = ℕ} 0 1 = cc in omega arith)
+    go None q = grind (arith, nat_tests)
+    go (Some m) q = absurd cc
+
+-- the frame at a turn, whose error has the number `e`
+module _ (h : Errors) (order : List Visit) (i n e : ℕ) (lt : i < length order) (is : e ≡ error_number (get_or order i unvisited).error) where
+  pub survey_more : (k : ℕ) → Ok k ≡ answer (h e) e (λ _. length (chain h e)) → survey_from h (n + k) (drop (i + 1) (map visited order)) ≡ survey_from h n (drop i (map visited order))
+  survey_more k q = goes_on h n (visited (get_or order i unvisited)) (drop (i + 1) (map visited order)) k (subst (λ (d : ℕ). Ok k ≡ answer (h d) d (λ _. length (chain h d))) is q) ∙ sym (ap (survey_from h n) (drop_order order i lt))
+
+  pub survey_stops : (f : HostFault) → Err f ≡ answer (h e) e (λ _. length (chain h e)) → Err f ≡ survey_from h n (drop i (map visited order))
+  survey_stops f q = stops h n (visited (get_or order i unvisited)) (drop (i + 1) (map visited order)) f (λ _. length (chain h (error_number (get_or order i unvisited).error))) (subst (λ (d : ℕ). Err f ≡ answer (h d) d (λ _. length (chain h d))) is q) ∙ sym (ap (survey_from h n) (drop_order order i lt))
 
 -- a chain has at most as many errors as there are numbers
 pub chain_few : (h : Errors) (e k : ℕ) → e < 65536 → Ok k ≡ answer (h e) e (λ _. length (chain h e)) → k ≤ 65536
@@ -60,7 +69,7 @@ from_total h n (x ∷ xs) = by_error x.value.error (λ k. from_total h k xs)
         by_told : (o : Option Error) → step o d (survey_from h (n + length (chain h d)) xs)
             ≡ or_else (cond (is_some o) (first_not_live h (listed_errors xs)) (Some d)) (n + (length (chain h d) + total h xs))
         by_told None = refl
-        by_told (Some m) = more (n + length (chain h d)) ∙ ap (or_else (first_not_live h (listed_errors xs))) (omega arith)
+        by_told (Some m) = grind (arith, nat_tests)
 
 plus : CommutativeMonoid ◌+◌ 0
 plus = record { unit_left = λ a. omega arith; commutes = λ a b. omega arith; associates = λ a b c. omega arith }
@@ -76,7 +85,7 @@ chain_ones h span l (Host e) = let a = ones (sources h e) in let b : length (cha
 total-folded : (h : Errors) (xs : List (Item FrameContent)) → folded ◌+◌ 0 (λ (x : Item FrameContent). length (chain h (error_number x.value.error))) xs ≡ total h xs
 unfolding total
 total-folded h [] = refl
-total-folded h (x ∷ xs) = ap (λ (n : ℕ). length (chain h (error_number x.value.error)) + n) (total-folded h xs)
+total-folded h (x ∷ xs) = grind (arith, nat_tests)
 
 nodes-total : (h : Errors) (span : ℕ) → Lawful h span → (t : Tree) → length (flattening h t) ≡ total h (frame_list t)
 nodes-total h span l t =

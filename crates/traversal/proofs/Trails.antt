@@ -1,14 +1,14 @@
 -- Frames side by side, appended one after the other.
-use Rattle.std.proofs.Common.{◌≡◌, ℕ, ◌+◌, ◌<◌, List, [], ◌∷◌, ◌++◌, length, get_or, set, Some, None, Option, sym, refl, ap, ◌∙◌, subst, arith}
+use Rattle.std.proofs.Common.{◌≡◌, ℕ, ◌+◌, ◌<◌, List, [], ◌∷◌, ◌++◌, length, get_or, Some, None, Option, sym, refl, ap, ◌∙◌, subst, ap₂, append_assoc, arith}
+use native.Mathlib.Bridge.{le_prop}
+use Rattle.std.proofs.lemmas.List.{append-nil, length-append}
 use Rattle.trees.specs.Numbered.{Numbered, none, node, ◌beside◌, head_of}
 use Rattle.layout.specs.declared.frame.Role.TheVariants.{Linked}
 use Rattle.layout.specs.declared.frame.Frame.{Frame}
 use Rattle.layout.specs.Layout.{blank, Held}
 use Rattle.traversal.specs.declared.order.Visit.{Visit}
-use Rattle.traversal.specs.Order.{visit_at, width, visits, Room, Appended}
-use Rattle.traversal.specs.Put.{Put}
-use Rattle.traversal.specs.Walk.{Trail, unvisited}
-use Rattle.traversal.proofs.Puts.{put_more, put_none}
+use Rattle.traversal.specs.Order.{visit_at, width, visits, Room}
+use Rattle.traversal.specs.Walk.{Trail}
 
 beside_none : (r : Numbered) → r beside none ≡ r
 beside_none none = refl
@@ -39,55 +39,54 @@ pub record Ahead (fs : List Frame) (stop c : ℕ) : Type 0 where
   pub below : c < 1024
   pub room : stop < 1024
 
-module _ (fs : List Frame) (first : Option ℕ) (start n : ℕ) (kids : Numbered) (o : Room fs first start kids) where
-  pub ahead : (before now : List Visit) (at : Option ℕ) (stop c : ℕ) → Trail before now at start stop n kids → at ≡ Some c → Ahead fs stop c
-  ahead before now at stop c t a = go t.rest t.is t.next
-    where
-      go : (rest : Numbered) → kids ≡ t.done beside rest → at ≡ head_of rest → Ahead fs stop c
-      go none i x = absurd (let z : ◌≡◌ {A = ℕ} 0 1 = cc in omega arith)
-      go (node d e p k r) i x =
-          let q : d ≡ c = cc in
-          let h : Held fs Linked (node d e p k r) = held_rest fs t.done (node d e p k r) (subst (λ (y : Numbered). Held fs Linked y) i o.held) in
-          let w = width_beside t.done (node d e p k r) in
-          let v : width kids ≡ width (t.done beside node d e p k r) = ap width i in
-          let u = t.put.ends in
-          let l = visits-length n t.done in
-          let g = o.long in
-          let m = o.room in
-          let hb = h.0 in
-          record { below = omega arith; room = omega arith }
+pub ahead_prop : (fs : List Frame) (stop c : ℕ) → IsProp (Ahead fs stop c)
+ahead_prop fs stop c = hlevel le_prop
 
-  pub trail_more : (before now : List Visit) (at : Option ℕ) (stop c : ℕ) → length before ≡ 1024 → Trail before now at start stop n kids → at ≡ Some c
-      → Trail before (set now stop (visit_at fs c (Some n))) (get_or fs c blank).next start (stop + 1) n kids
-  trail_more before now at stop c le t a = go t.rest t.is t.next
-    where
-      go : (rest : Numbered) → kids ≡ t.done beside rest → at ≡ head_of rest
-          → Trail before (set now stop (visit_at fs c (Some n))) (get_or fs c blank).next start (stop + 1) n kids
-      go none i x = absurd (let z : ◌≡◌ {A = ℕ} 0 1 = cc in omega arith)
-      go (node d e p k r) i x =
-          let q : d ≡ c = cc in
-          let h : Held fs Linked (node d e p k r) = held_rest fs t.done (node d e p k r) (subst (λ (y : Numbered). Held fs Linked y) i o.held) in
-          let b = (ahead before now at stop c t a).room in
-          let m = o.room in
-          let y : Visit = record { frame = d; error = e; place = p; parent = Some n } in
-          let yv : y ≡ visit_at fs d (Some n) = sym (ap (λ (f : Frame). record { frame = d; error = f.error; place = f.place; parent = Some n }) h.1) in
-          subst (λ (z : ℕ). Trail before (set now stop (visit_at fs z (Some n))) (get_or fs z blank).next start (stop + 1) n kids) q
-          (record {
-            done = t.done beside node d e p k none;
-            rest = r;
-            is = i ∙ sym (beside_assoc t.done (node d e p k none) r);
-            next = ap (λ (f : Frame). f.next) h.1;
-            put = subst (λ (z : List Visit). Put before (set now stop (visit_at fs d (Some n))) start (stop + 1) z) (sym (visits_beside n t.done (node d e p k none)))
-                (subst (λ (z : Visit). Put before (set now stop z) start (stop + 1) (visits n t.done ++ (y ∷ []))) yv
-                (put_more unvisited before now start stop (visits n t.done) y t.put (omega arith) (omega arith)));
-          })
+module _ (fs : List Frame) (first : Option ℕ) (n : ℕ) (kids : Numbered) (before : List Visit) (o : Room fs first (length before) kids) where
+  pub trail_none : Trail before before first n kids
+  trail_none = record { done = none; rest = kids; is = refl; next = sym o.begins; list = sym (append-nil before) }
 
-  pub trail_all : (before now : List Visit) (at : Option ℕ) (stop : ℕ) → Trail before now at start stop n kids → at ≡ None → Appended before now start stop n kids
-  trail_all before now at stop t a = go t.rest t.is t.next
-    where
-      go : (rest : Numbered) → kids ≡ t.done beside rest → at ≡ head_of rest → Appended before now start stop n kids
-      go none i x = subst (λ (y : Numbered). Appended before now start stop n y) (sym (i ∙ beside_none t.done)) t.put
-      go (node d e p k r) i x = absurd (let z : ◌≡◌ {A = ℕ} 0 1 = cc in omega arith)
+  module _ (now : List Visit) (at : Option ℕ) (t : Trail before now at n kids) where
+    pub ahead : (c : ℕ) → at ≡ Some c → Ahead fs (length now) c
+    ahead c a = go t.rest t.is t.next
+      where
+        go : (rest : Numbered) → kids ≡ t.done beside rest → at ≡ head_of rest → Ahead fs (length now) c
+        go none i x = absurd cc
+        go (node d e p k r) i x =
+            let q : d ≡ c = cc in
+            let h : Held fs Linked (node d e p k r) = held_rest fs t.done (node d e p k r) (subst (λ (y : Numbered). Held fs Linked y) i o.held) in
+            let w = width_beside t.done (node d e p k r) in
+            let v : width kids ≡ width (t.done beside node d e p k r) = ap width i in
+            let u : length now ≡ length before + length (visits n t.done) = ap length t.list ∙ length-append before (visits n t.done) in
+            let l = visits-length n t.done in
+            let g = o.long in
+            let m = o.room in
+            let hb = h.0 in
+            record { below = omega arith; room = omega arith }
 
-  pub trail_none : (before : List Visit) → Trail before before first start start n kids
-  trail_none before = record { done = none; rest = kids; is = refl; next = sym o.begins; put = put_none before start }
+    pub trail_more : (c : ℕ) → at ≡ Some c → Trail before (now ++ (visit_at fs c (Some n) ∷ [])) (get_or fs c blank).next n kids
+    trail_more c a = go t.rest t.is t.next
+      where
+        go : (rest : Numbered) → kids ≡ t.done beside rest → at ≡ head_of rest → Trail before (now ++ (visit_at fs c (Some n) ∷ [])) (get_or fs c blank).next n kids
+        go none i x = absurd cc
+        go (node d e p k r) i x =
+            let q : d ≡ c = cc in
+            let h : Held fs Linked (node d e p k r) = held_rest fs t.done (node d e p k r) (subst (λ (y : Numbered). Held fs Linked y) i o.held) in
+            let y : Visit = record { frame = d; error = e; place = p; parent = Some n } in
+            let yv : y ≡ visit_at fs d (Some n) = sym (ap (λ (f : Frame). record { frame = d; error = f.error; place = f.place; parent = Some n }) h.1) in
+            subst (λ (z : ℕ). Trail before (now ++ (visit_at fs z (Some n) ∷ [])) (get_or fs z blank).next n kids) q
+            (record {
+              done = t.done beside node d e p k none;
+              rest = r;
+              is = i ∙ sym (beside_assoc t.done (node d e p k none) r);
+              next = ap (λ (f : Frame). f.next) h.1;
+              list = ap₂ (λ (z : List Visit) (v : Visit). z ++ (v ∷ [])) t.list (sym yv) ∙ append_assoc before (visits n t.done) (y ∷ [])
+                  ∙ ap (λ (z : List Visit). before ++ z) (sym (visits_beside n t.done (node d e p k none)));
+            })
+
+    pub trail_all : at ≡ None → now ≡ before ++ visits n kids
+    trail_all a = go t.rest t.is t.next
+      where
+        go : (rest : Numbered) → kids ≡ t.done beside rest → at ≡ head_of rest → now ≡ before ++ visits n kids
+        go none i x = t.list ∙ ap (λ (y : Numbered). before ++ visits n y) (sym (i ∙ beside_none t.done))
+        go (node d e p k r) i x = absurd cc

@@ -1,5 +1,5 @@
 -- The frames of a report in breadth-first order.
-use Rattle.std.specs.Prelude.{◌≡◌, ℕ, ◌+◌, ◌≤◌, List, [], ◌∷◌, map, length, take, drop, Some, None, Option, slice_index_or}
+use Rattle.std.specs.Prelude.{◌≡◌, ℕ, ◌+◌, ◌≤◌, List, [], ◌∷◌, map, length, Some, None, Option, slice_index_or}
 use Rattle.trees.specs.Counting.{in_report}
 use Rattle.trees.specs.Trees.{Tree}
 use Rattle.trees.specs.Numbered.{Numbered, none, node, head_of}
@@ -10,7 +10,6 @@ use Rattle.nodes.specs.Breadth.{Item}
 use Rattle.nodes.specs.Flattening.{frame_list}
 use Rattle.nodes.specs.Nodes.{FrameContent}
 use Rattle.traversal.specs.declared.order.Visit.{Visit}
-use Rattle.traversal.specs.Put.{Put}
 
 -- a visit of a frame
 abbrev pub visit_at : List Frame → ℕ → Option ℕ → Visit
@@ -20,10 +19,10 @@ visit_at fs i o = record { frame = i; error = (slice_index_or fs i blank).error;
 abbrev pub visited : Visit → Item FrameContent
 visited v = record { parent = v.parent; value = record { error = v.error; place = v.place } }
 
--- the order has the frames of the report breadth-first, which are so many, and is as it was behind them
-abbrev pub Ordered : Option Tree → List Visit → List Visit → ℕ → Type 0
-Ordered None before after n = ⊥
-Ordered (Some t) before after n = (n ≡ in_report (Some t)) × (map visited (take n after) ≡ frame_list t) × (drop n after ≡ drop n before)
+-- the order has the frames of the report breadth-first
+abbrev pub Ordered : Option Tree → List Visit → Type 0
+Ordered None order = ⊥
+Ordered (Some t) order = (length order ≡ in_report (Some t)) × (map visited order ≡ frame_list t)
 
 -- how many trees stand side by side
 abbrev pub width : Numbered → ℕ
@@ -41,7 +40,3 @@ pub record Room (fs : List Frame) (first : Option ℕ) (start : ℕ) (kids : Num
   pub begins : head_of kids ≡ first
   pub room : start + width kids ≤ 1024
   pub long : length fs ≡ 1024
-
--- the frames are appended
-abbrev pub Appended : List Visit → List Visit → ℕ → ℕ → ℕ → Numbered → Type 0
-Appended before after start stop n kids = Put before after start stop (visits n kids)

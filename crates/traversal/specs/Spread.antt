@@ -45,6 +45,10 @@ abbrev pub from_source : ℕ → ℕ → Option ℕ → List Wait
 from_source i p None = []
 from_source i p (Some d) = of_source (Some i) d p ∷ []
 
+-- the source of a node that stands in the list at an index
+abbrev pub source_of_node : Errors → ℕ → Node → List Wait
+source_of_node h i x = from_source i x.place (error_source h x.error)
+
 -- the frames beneath the node at an index, which is a frame at an index of the order
 abbrev pub from_forest : ℕ → ℕ → Forest → List Wait
 from_forest i o empty = []
@@ -60,20 +64,19 @@ abbrev pub NotUnder : ℕ → List (Item FrameContent) → Type 0
 NotUnder o [] = Unit {0}
 NotUnder o (x ∷ xs) = is_parent o x.parent ≡ false
 
--- the next frames of the order are the trees of a forest, and those behind them have another parent
-pub record NextFrames (ys : List (Item FrameContent)) (from o : ℕ) (c : Forest) : Type 0 where
+-- the first frames are the trees of a forest, and those behind them have another parent
+pub record NextFrames (ys : List (Item FrameContent)) (o : ℕ) (c : Forest) : Type 0 where
   pub rest : List (Item FrameContent)
-  pub are : drop from ys ≡ map item (under (Some o) (frame_rows c)) ++ rest
+  pub are : ys ≡ map item (under (Some o) (frame_rows c)) ++ rest
   pub ends : NotUnder o rest
 
 -- some of those frames are listed
-pub record Listing (ys : List (Item FrameContent)) (before now : List Node) (i o from at start stop : ℕ) (c : Forest) : Type 0 where
+pub record Listing (ys : List (Item FrameContent)) (before now : List Node) (i o start stop : ℕ) (c : Forest) : Type 0 where
   pub done : List Wait
   pub rest : Forest
   pub is : from_forest i o c ≡ done ++ from_forest i o rest
-  pub next : NextFrames ys at o rest
+  pub next : NextFrames ys o rest
   pub put : Put before now start stop (map wait_node done)
-  pub moved : at ≡ from + length done
 
 -- the children of a node that waits, which is at an index of the list and, if it is a frame, at an index of the order
 abbrev pub born : Errors → ℕ → ℕ → Wait → List Wait
@@ -90,16 +93,17 @@ shown_after (of_source j d p) n = n
 shown_after (of_frame j k e p c) n = n + trees c
 
 -- beneath a frame the next frames of the order are its own
-abbrev pub NextBelow : List (Item FrameContent) → ℕ → ℕ → Wait → Type 0
-NextBelow ys shown past (of_source j d p) = Unit {0}
-NextBelow ys shown past (of_frame j k e p c) = NextFrames ys shown past c
+abbrev pub NextBelow : List (Item FrameContent) → ℕ → Wait → Type 0
+NextBelow ys past (of_source j d p) = Unit {0}
+NextBelow ys past (of_frame j k e p c) = NextFrames ys past c
 
 -- a node of the list waits, and there is room for its children
 pub record Waits (h : Errors) (ys : List (Item FrameContent)) (list : List Node) (i : ℕ) (at : Progress) (w : Wait) : Type 0 where
   pub is : slice_index_or list i blank_node ≡ wait_node w
-  pub next : NextBelow ys at.shown at.past w
+  pub next : NextBelow (drop at.shown ys) at.past w
   pub room : at.stop + length (born h i at.past w) ≤ length list
-  pub few : at.past ≤ 1024
+  pub past : at.past ≤ length ys
+  pub shown : at.shown ≤ length ys
 
 -- its children are appended
 pub record Grown (h : Errors) (before after : List Node) (i : ℕ) (at to : Progress) (w : Wait) : Type 0 where
@@ -116,7 +120,7 @@ pub record InOrder (ys : List (Item FrameContent)) (past shown : ℕ) (ws : List
   pub within : shown ≤ length ys
 
 -- how far a flattening has come: `i` nodes of the list are gone past
-pub record Spread (h : Errors) (ys : List (Item FrameContent)) (before now : List Node) (total i : ℕ) (at : Progress) (w : Wait) : Type 0 where
+pub record Spread (h : Errors) (ys : List (Item FrameContent)) (before now : List Node) (i : ℕ) (at : Progress) (w : Wait) : Type 0 where
   pub done : List Node
   pub waiting : List Wait
   pub left : ℕ
@@ -124,12 +128,11 @@ pub record Spread (h : Errors) (ys : List (Item FrameContent)) (before now : Lis
   pub list : now ≡ done ++ (map wait_node waiting ++ drop at.stop before)
   pub ends : at.stop ≡ i + length waiting
   pub loaded : weight (map (entry_in h) waiting) ≡ left
-  pub falls : left + i ≡ total
-  pub target : done ++ map listed (queue left i (map (entry_in h) waiting)) ≡ map listed (queue total 0 (entry_in h w ∷ []))
+  pub falls : left + i ≡ length before
+  pub target : done ++ map listed (queue left i (map (entry_in h) waiting)) ≡ map listed (queue (length before) 0 (entry_in h w ∷ []))
   pub order : InOrder ys at.past at.shown (frames_in waiting)
 
--- the list is to take the nodes of a tree, whose frames stand in the order
-pub record Begun (h : Errors) (ys : List (Item FrameContent)) (room total : ℕ) (t : Tree) : Type 0 where
+-- a list of `n` places is to take the nodes of a tree, whose frames stand in the order
+pub record Begun (h : Errors) (ys : List (Item FrameContent)) (n : ℕ) (t : Tree) : Type 0 where
   pub frames : ys ≡ frame_list t
-  pub nodes : total ≡ count (nodes_of h t)
-  pub fits : total ≤ room
+  pub nodes : n ≡ count (nodes_of h t)

@@ -1,5 +1,5 @@
 -- The steps of a breadth-first walk: the order is its own queue.
-use Rattle.std.specs.Prelude.{◌≡◌, ℕ, ◌+◌, ◌<◌, ◌≤◌, List, [], ◌∷◌, ◌++◌, map, length, drop, None, Option, slice_index_or}
+use Rattle.std.specs.Prelude.{◌≡◌, ℕ, ◌+◌, ◌<◌, ◌≤◌, List, [], ◌∷◌, ◌++◌, map, length, None, Option, slice_index_or}
 use Rattle.vocabulary.specs.declared.frame_error.FrameError.{FrameError}
 use Rattle.vocabulary.specs.declared.frame_error.FrameError.TheVariants.{Host}
 use Rattle.trees.specs.Numbered.{Numbered, ◌beside◌, shape, size, head_of}
@@ -11,15 +11,14 @@ use Rattle.nodes.specs.Nodes.{FrameContent, frame_rows}
 use Rattle.nodes.specs.Queue.{queue}
 use Rattle.traversal.specs.declared.order.Visit.{Visit}
 use Rattle.traversal.specs.Order.{visits, visited}
-use Rattle.traversal.specs.Put.{Put}
 
 -- some of the frames side by side are appended
-pub record Trail (before now : List Visit) (at : Option ℕ) (start stop n : ℕ) (kids : Numbered) : Type 0 where
+pub record Trail (before now : List Visit) (at : Option ℕ) (n : ℕ) (kids : Numbered) : Type 0 where
   pub done : Numbered
   pub rest : Numbered
   pub is : kids ≡ done beside rest
   pub next : at ≡ head_of rest
-  pub put : Put before now start stop (visits n done)
+  pub list : now ≡ before ++ visits n done
 
 -- a frame whose children are still to be appended
 pub record Waiting : Type 0 where
@@ -52,22 +51,19 @@ load (w ∷ q) = (size w.kids + 1) + load q
 abbrev pub unvisited : Visit
 unvisited = record { frame = 0; error = Host 0; place = 0; parent = None }
 
-pub record Start (fs : List Frame) (order : List Visit) (total : ℕ) (w : Waiting) : Type 0 where
+pub record Start (fs : List Frame) (total : ℕ) (w : Waiting) : Type 0 where
   pub lies : Lies fs w
-  pub head : slice_index_or order 0 unvisited ≡ visit_of w
   pub all : size w.kids + 1 ≡ total
   pub fits : total ≤ 1024
-  pub room : length order ≡ 1024
   pub long : length fs ≡ 1024
 
-pub record Walk (fs : List Frame) (before now : List Visit) (total i stop : ℕ) (w : Waiting) : Type 0 where
+pub record Walk (fs : List Frame) (now : List Visit) (total i : ℕ) (w : Waiting) : Type 0 where
   pub done : List Visit
   pub waiting : List Waiting
   pub left : ℕ
   pub lie : Lie fs waiting
   pub long : length done ≡ i
-  pub list : now ≡ done ++ (map visit_of waiting ++ drop stop before)
-  pub ends : stop ≡ i + length waiting
+  pub list : now ≡ done ++ map visit_of waiting
   pub loaded : load waiting ≡ left
   pub falls : left + i ≡ total
   pub target : map visited done ++ queue left i (map entry_of waiting) ≡ queue total 0 (entry_of w ∷ [])

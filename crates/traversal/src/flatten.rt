@@ -1,11 +1,11 @@
 // The nodes of a report, written breadth-first into a list.
-ghost use Rattle.std.specs.Prelude.{◌≡◌, ◌+◌, ◌<◌, ◌≤◌, [], ◌∷◌, ◌++◌, map, length, take, drop, slice_index_or};
+ghost use Rattle.std.specs.Prelude.{◌≡◌, ◌+◌, ◌<◌, ◌≤◌, ◌++◌, map, length, drop, slice_index_or};
 ghost use Rattle.trees.specs.Trees.{Forest, Tree};
-ghost use Rattle.nodes.specs.Breadth.{is_parent};
-ghost use Rattle.nodes.specs.Flattening.{flattening};
+ghost use Rattle.nodes.specs.Flattening.{flattening, listed};
+ghost use Rattle.nodes.specs.Nodes.{frame};
 ghost use Rattle.traversal.specs.Order.{visited};
 ghost use Rattle.traversal.specs.Put.{Put};
-ghost use Rattle.traversal.specs.Spread.{Begun, Grown, NextFrames, Wait, Waits, error_source, from_forest, from_source, trees, wait_node};
+ghost use Rattle.traversal.specs.Spread.{Begun, Grown, NextFrames, Wait, Waits, from_forest, source_of_node, trees, wait_node};
 ghost use Rattle.traversal.specs.Start.{blank_node};
 
 use crate::order::Visit;
@@ -14,7 +14,8 @@ use host::sources::source_of;
 use nodes::node::{Node, Note};
 use vocabulary::frame_error::FrameError;
 
-// How far a flattening has come.
+// How far a flattening has come. A struct that held the list too would promise in each call that it is the same loan; and
+// host and order are not asked for together but in the call that passes them on.
 #[derive(Clone, Copy)]
 pub struct Progress {
     // where the list ends
@@ -25,21 +26,26 @@ pub struct Progress {
     shown: usize,
 }
 
-// Whether a visit's parent stands at `o` in the order.
-fn is_child(visit: Visit, o: usize) -> bool
-    ensures { result ≡ is_parent o visit.parent }
-{
-    match visit.parent {
-        Some(parent) => parent as usize == o,
-        None => false,
+impl Visit {
+    // The node of the frame.
+    fn node(self, parent: Option<usize>) -> Node
+        ensures { result ≡ listed (record { parent = parent; value = frame self.error self.place }) }
+    {
+        Node {
+            error: self.error,
+            place: self.place,
+            native: false,
+            parent,
+            note: Note::Clear,
+        }
     }
 }
 
 // Appends the source of the node `i`, if it has one, and answers where the list then ends.
 fn append_source<H: Host>(host: &H, i: usize, list: &mut [Node], start: usize) -> usize
     requires within { i < length list.old }
-    requires room { start + length (from_source i (slice_index_or list.old i blank_node).place (error_source (H.Host.errors host.now) (slice_index_or list.old i blank_node).error)) ≤ length list.old }
-    ensures { Put list.old list.new start result (map wait_node (from_source i (slice_index_or list.old i blank_node).place (error_source (H.Host.errors host.now) (slice_index_or list.old i blank_node).error))) }
+    requires room { start + length (source_of_node (H.Host.errors host.now) i (slice_index_or list.old i blank_node)) ≤ length list.old }
+    ensures { Put list.old list.new start result (map wait_node (source_of_node (H.Host.errors host.now) i (slice_index_or list.old i blank_node))) }
 {
     let node = list[i];
     let Some(source) = source_of(host, node.error.number()) else {
@@ -55,93 +61,62 @@ fn append_source<H: Host>(host: &H, i: usize, list: &mut [Node], start: usize) -
     start + 1
 }
 
-// Appends the frames beneath the node `i`, which is the frame `o` of the order; the next of the order stands at `from`.
-// Answers where the one after them stands.
-fn append_frames(
-    order: &[Visit; 1024],
-    count: usize,
-    from: usize,
-    o: usize,
-    i: usize,
-    list: &mut [Node],
-    start: usize,
-) -> usize
-    requires within { count ≤ 1024 }
-    requires next { ∥ ((c : Forest) × NextFrames (map visited (take count order.now)) from o c × (start + trees c ≤ length list.old)) ∥₁ }
-    ensures put { (c : Forest) → NextFrames (map visited (take count order.now)) from o c → start + trees c ≤ length list.old
-        → Put list.old list.new start (start + trees c) (map wait_node (from_forest i o c)) × (result ≡ from + trees c) }
+// Appends the first frames of the order that lie beneath the node `i`, which is the frame `o` of the whole order, and
+// answers where the list then ends.
+fn append_frames(order: &[Visit], o: usize, i: usize, list: &mut [Node], start: usize) -> usize
+    requires { ∥ ((c : Forest) × NextFrames (map visited order.now) o c × (start + trees c ≤ length list.old)) ∥₁ }
+    ensures { (c : Forest) → NextFrames (map visited order.now) o c → start + trees c ≤ length list.old
+        → Put list.old list.new start result (map wait_node (from_forest i o c)) }
 {
-    let mut at = from;
-    let mut stop = start;
-    while at < count && is_child(order[at], o) {
-        let visit = order[at];
-        list[stop] = Node {
-            error: visit.error,
-            place: visit.place,
-            native: false,
-            parent: Some(i),
-            note: Note::Clear,
-        };
-        stop += 1;
-        at += 1;
+    for (k, visit) in order.iter().enumerate() {
+        if visit.parent != Some(o) {
+            return start + k;
+        }
+        list[start + k] = visit.node(Some(i));
     }
-    at
+    start + order.len()
 }
 
 // Appends the children of the node `i`, and answers how far the flattening then is.
 fn append_below<H: Host>(
     host: &H,
-    order: &[Visit; 1024],
-    count: usize,
+    order: &[Visit],
     i: usize,
     list: &mut [Node],
     at: Progress,
 ) -> Progress
-    requires within { count ≤ 1024 }
     requires inside { i < length list.old }
-    requires waits { ∥ ((w : Wait) × Waits (H.Host.errors host.now) (map visited (take count order.now)) list.old i at w) ∥₁ }
-    ensures { (w : Wait) → Waits (H.Host.errors host.now) (map visited (take count order.now)) list.old i at w
+    requires waits { ∥ ((w : Wait) × Waits (H.Host.errors host.now) (map visited order.now) list.old i at w) ∥₁ }
+    ensures { (w : Wait) → Waits (H.Host.errors host.now) (map visited order.now) list.old i at w
         → Grown (H.Host.errors host.now) list.old list.new i at result w }
 {
     let native = list[i].native;
-    let stop = append_source(host, i, list, at.stop);
+    let start = append_source(host, i, list, at.stop);
     if native {
-        return Progress { stop, ..at };
+        return Progress { stop: start, ..at };
     }
-    let shown = append_frames(order, count, at.shown, at.past, i, list, stop);
+    let rest = &order[at.shown..];
+    let stop = append_frames(rest, at.past, i, list, start);
     Progress {
-        stop: stop + (shown - at.shown),
+        stop,
         past: at.past + 1,
-        shown,
+        shown: at.shown + (stop - start),
     }
 }
 
-// Writes the nodes of a report breadth-first into a list. Its frames stand in the order, and its nodes are `total`.
-pub fn flatten<H: Host>(
-    host: &H,
-    order: &[Visit; 1024],
-    count: usize,
-    list: &mut [Node],
-    total: usize,
-)
-    requires within { count ≤ 1024 }
-    requires begun { ∥ ((t : Tree) × Begun (H.Host.errors host.now) (map visited (take count order.now)) (length list.old) total t) ∥₁ }
-    ensures { (t : Tree) → Begun (H.Host.errors host.now) (map visited (take count order.now)) (length list.old) total t
-        → list.new ≡ flattening (H.Host.errors host.now) t ++ drop total list.old }
+// Writes the nodes of a report, whose frames stand in the order, breadth-first into a list of as many places.
+// The loop counts, since the list that it goes through is written meanwhile.
+pub fn flatten<H: Host>(host: &H, order: &[Visit], list: &mut [Node])
+    requires { ∥ ((t : Tree) × Begun (H.Host.errors host.now) (map visited order.now) (length list.old) t) ∥₁ }
+    ensures { (t : Tree) → Begun (H.Host.errors host.now) (map visited order.now) (length list.old) t → list.new ≡ flattening (H.Host.errors host.now) t }
 {
-    list[0] = Node {
-        error: order[0].error,
-        place: order[0].place,
-        native: false,
-        parent: None,
-        note: Note::Clear,
-    };
+    list[0] = order[0].node(None);
     let mut at = Progress {
         stop: 1,
         past: 0,
         shown: 1,
     };
-    for i in 0..total {
-        at = append_below(host, order, count, i, list, at);
+    for i in 0..list.len() {
+        at = append_below(host, order, i, list, at);
     }
 }

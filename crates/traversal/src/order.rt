@@ -1,10 +1,14 @@
 // The frames of a report in breadth-first order.
-ghost use Rattle.std.specs.Prelude.{◌≡◌, ◌<◌, ◌≤◌, true, is_some};
+ghost use Rattle.std.specs.Prelude.{◌≡◌, ◌<◌, ◌++◌, true, is_some};
+ghost use Rattle.arrayvec.specs.ArrayVec.{array_vec_len};
 ghost use Rattle.trees.specs.Numbered.{Numbered};
 ghost use Rattle.frames.specs.Of.{frames_of, reports_of};
-ghost use Rattle.traversal.specs.Order.{Appended, Ordered, Room, visit_at};
+ghost use Rattle.traversal.specs.Order.{Ordered, Room, visit_at, visits};
+ghost use Rattle.traversal.specs.Walk.{unvisited};
 
+use arrayvec::ArrayVec;
 use frames::store::Frames;
+use layout::frame::Frame;
 use vocabulary::frame_error::FrameError;
 
 // A frame that was come to.
@@ -14,62 +18,62 @@ pub struct Visit {
     pub error: FrameError,
     pub place: u32,
     // where its parent stands in the order, none for the root
-    pub parent: Option<u16>,
+    pub parent: Option<usize>,
 }
 
-// What an order has where nothing was written yet.
-pub const UNVISITED: Visit = Visit {
-    frame: 0,
-    error: FrameError::Host(0),
-    place: 0,
-    parent: None,
-};
+// What an order has where nothing was written yet. By hand, since no error is the default one.
+impl Default for Visit {
+    ghost is_default = { λ v. v ≡ unvisited };
 
-fn visit_of(frames: &Frames, frame: u16, parent: Option<u16>) -> Visit
+    fn default() -> Visit {
+        Visit {
+            frame: 0,
+            error: FrameError::Host(0),
+            place: 0,
+            parent: None,
+        }
+    }
+}
+
+// The frames of a report, as they were come to.
+pub type Order = ArrayVec<Visit, 1024>;
+
+fn visit_of(frames: &Frames, frame: u16, parent: Option<usize>) -> Visit
     requires { frame < 1024 }
     ensures { result ≡ visit_at (frames_of frames.now) frame parent }
 {
+    let Frame { error, place, .. } = frames.frame(frame);
     Visit {
         frame,
-        error: frames.error(frame),
-        place: frames.place(frame),
+        error,
+        place,
         parent,
     }
 }
 
-// Appends the frames that are linked from `first`, and answers where they end.
-fn append_children(
-    frames: &Frames,
-    first: Option<u16>,
-    parent: u16,
-    order: &mut [Visit; 1024],
-    start: usize,
-) -> usize
-    requires { ∥ ((kids : Numbered) × Room (frames_of frames.now) first start kids) ∥₁ }
-    ensures { (kids : Numbered) → Room (frames_of frames.now) first start kids → Appended order.old order.new start result parent kids }
+// Appends the frames that are linked from `first`. No iterator: that of the library over links (`iter::successors`) has no
+// end that a `for` could see, and here the proof knows it.
+fn append_children(frames: &Frames, first: Option<u16>, parent: usize, order: &mut Order)
+    requires { ∥ ((kids : Numbered) × Room (frames_of frames.now) first (array_vec_len order.old) kids) ∥₁ }
+    ensures { (kids : Numbered) → Room (frames_of frames.now) first (array_vec_len order.old) kids → order.new.items ≡ order.old.items ++ visits parent kids }
 {
     let mut at = first;
-    let mut stop = start;
     while let Some(frame) = at {
-        order[stop] = visit_of(frames, frame, Some(parent));
-        stop += 1;
-        at = frames.next_sibling(frame);
+        order.push(visit_of(frames, frame, Some(parent)));
+        at = frames.frame(frame).next;
     }
-    stop
 }
 
-// Writes the frames of a report into an order, breadth-first, and answers how many they are.
-pub fn breadth_first(frames: &Frames, root: u16, order: &mut [Visit; 1024]) -> usize
+// The frames of a report, breadth-first. The loop counts, since the order that it goes through grows meanwhile.
+pub fn breadth_first(frames: &Frames, root: u16) -> Order
     requires { is_some (reports_of frames.now root) ≡ true }
-    ensures few { result ≤ 1024 }
-    ensures ordered { Ordered (reports_of frames.now root) order.old order.new result }
+    ensures { Ordered (reports_of frames.now root) result.items }
 {
-    let count = frames.size(root);
-    order[0] = visit_of(frames, root, None);
-    let mut stop = 1;
-    for i in 0..count {
-        let first = frames.first_child(order[i].frame);
-        stop = append_children(frames, first, i as u16, order, stop);
+    let mut order = Order::new();
+    order.push(visit_of(frames, root, None));
+    for i in 0..frames.size(root) {
+        let first = frames.frame(order[i].frame).first;
+        append_children(frames, first, i, &mut order);
     }
-    count
+    order
 }

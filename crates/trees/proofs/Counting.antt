@@ -1,5 +1,6 @@
 -- How an update changes the number of frames used.
-use Rattle.std.proofs.Common.{◌≡◌, ℕ, zero, suc, ◌+◌, ◌<◌, eqb, None, Option, sym, refl, ap, ap₂, ⊎_elim, arith}
+use Rattle.std.proofs.lemmas.Bool.Decides.{nat_tests}
+use Rattle.std.proofs.Common.{◌≡◌, ℕ, zero, suc, ◌+◌, ◌<◌, eqb, None, Option, sym, refl, ap, ⊎_elim, arith}
 use Rattle.std.specs.Map.{update}
 use Rattle.std.proofs.lemmas.Map.{update_here, update_apart}
 use Rattle.std.proofs.lemmas.Bool.{cases_eq}
@@ -30,7 +31,7 @@ pub used-none : used (λ j. None) (λ j. None) ≡ 0
 used-none = total_zero 1024 (λ j. 0 + 0) (λ j. refl)
 
 pub used_same : (g g' : ℕ → Option Tree) (h h' : ℕ → Option Listing) → ((j : ℕ) → g j ≡ g' j) → ((j : ℕ) → h j ≡ h' j) → used g h ≡ used g' h'
-used_same g g' h h' p q = total_same 1024 _ _ (λ j lt. ap₂ (λ (t : Option Tree) (x : Option Listing). in_report t + in_row x) (p j) (q j))
+used_same g g' h h' p q = grind (arith, nat_tests)
 
 pub used_report : (g : ℕ → Option Tree) (h : ℕ → Option Listing) (i : ℕ) (v : Option Tree) → i < 1024 → used (update eqb g i v) h + in_report (g i) ≡ used g h + in_report v
 used_report g h i v lt =

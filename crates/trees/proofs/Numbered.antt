@@ -1,27 +1,25 @@
 -- Laws of numbered forests.
-use Rattle.std.proofs.Common.{◌≡◌, ℕ, zero, suc, ◌+◌, ◌≤◌, true, false, eqb, ◌⊎◌, ◌∷◌, ◌++◌, sym, refl, ap, ◌∙◌, inl, inr, ⊎_elim, arith}
-use Rattle.std.proofs.lemmas.Bool.{eq-eqb, ne_eqb, eqb-true, cond-true, cond-false, cases_Bool, false≢true}
+use Rattle.std.proofs.Common.{◌≡◌, ℕ, ◌+◌, ◌≤◌, true, false, eqb, ◌∷◌, ◌++◌, sym, refl, ap, ◌∙◌, ⊎_elim, arith}
+use Rattle.std.specs.Option.{option_or}
+use Rattle.std.proofs.lemmas.Bool.Decides.{nat_tests}
+use Rattle.std.proofs.lemmas.Bool.{ne_eqb, eqb-true, cond-false, cases_Bool, false≢true}
 use Rattle.vocabulary.specs.declared.frame_error.FrameError.{FrameError}
 use Rattle.trees.specs.Trees.{Forest, tree, forest, Listing, ◌then◌, among}
-use Rattle.trees.specs.Numbered.{Numbered, none, node, ◌beside◌, shape, listing, tree_of, size, one, tally, last_from}
+use Rattle.trees.specs.Numbered.{Numbered, none, node, ◌beside◌, shape, listing, tree_of, size, one, tally, head_of, last_from}
 use Rattle.trees.specs.Laws.{Counted}
 use Rattle.trees.specs.Roots.{Differ}
 
 pub one_same : (n i : ℕ) → n ≡ i → one n i ≡ 1
 unfolding one
-one_same n i e = cond-true (eqb n i) 1 0 (eq-eqb n i e)
+one_same n i e = grind (arith, nat_tests)
 
 pub one_other : (n i : ℕ) → (n ≡ i → ⊥) → one n i ≡ 0
 unfolding one
-one_other n i e = cond-false (eqb n i) 1 0 (ne_eqb n i e)
+one_other n i e = grind (arith, nat_tests)
 
 -- a number that does not count is another number
 pub apart : (n i : ℕ) → one n i ≡ 0 → n ≡ i → ⊥
 apart n i z e = let h = one_same n i e in omega arith
-
-pub some_or_none : (n : ℕ) → (n ≡ 0) ⊎ (1 ≤ n)
-some_or_none zero = inl refl
-some_or_none (suc n) = inr (omega arith)
 
 pub tally_beside : (n : ℕ) (r s : Numbered) → tally n (r beside s) ≡ tally n r + tally n s
 tally_beside n none s = omega arith
@@ -46,6 +44,10 @@ forest-listing (node i e p k r) = ap (λ (x : Forest). tree e p (shape k) x) (fo
 pub among_absent : (n : ℕ) (r : Numbered) → tally n r ≡ 0 → among n (listing r) ≡ false
 among_absent n none z = refl
 among_absent n (node i e p k r) z = cond-false (eqb n i) _ _ (ne_eqb n i (apart n i (omega arith))) ∙ among_absent n r (omega arith)
+
+pub head_beside : (r s : Numbered) → option_or (head_of r) (head_of s) ≡ head_of (r beside s)
+head_beside none s = refl
+head_beside (node i e p k r) s = refl
 
 pub last_in : (i : ℕ) (e : FrameError) (p : ℕ) (k r : Numbered) → 1 ≤ tally (last_from i r) (node i e p k r)
 last_in i e p k none = let h = one_same i i refl in omega arith

@@ -36,6 +36,11 @@ abbrev pub opened : (ℕ → Option Listing) → Listing → ℕ → Option List
 opened h [] j = h j
 opened h (x ∷ xs) j = update nat_eq h x.0 (Some (x ∷ xs)) j
 
+-- the rows without one, if it is named
+abbrev pub without : (ℕ → Option Listing) → Option ℕ → ℕ → Option Listing
+without rows None j = rows j
+without rows (Some h) j = update nat_eq rows h None j
+
 -- a report without the children of its root
 abbrev pub bare : Option Tree → Option Tree
 bare None = None

@@ -1,5 +1,5 @@
 use Rattle.chains.proofs.Held.{told, told_there, none-held}
-use Rattle.chains.proofs.Shown.{errors_of_lem}
+use Rattle.chains.proofs.Shown.{errors_of_front}
 use Rattle.chains.proofs.iter.iter_errors.Goals as goal
 
 pub returns : goal.returns
@@ -11,5 +11,5 @@ returns g c =
       none-held s h x _ d.tree d.holds d.is (c.in_ok-nodes.ensures d.tree (told_there s x _ _ d.tree c.frames.ensures d.root d.is)).0,
       λ t e.
           let l = c.in_ok-nodes.ensures t (told_there s x _ _ t c.frames.ensures d.root e) in
-          errors_of_lem h t c.args.list.now _ _ _ _ l.1 l.2 c.keep_errors.ensures.count c.keep_errors.ensures.list,
+          errors_of_front h t c.args.list.now _ _ _ _ l.1 l.2 c.keep_errors.ensures.count c.keep_errors.ensures.list,
     )

@@ -1,8 +1,9 @@
-use Rattle.std.proofs.Common.{sym, ap, ◌∙◌}
-use Rattle.layout.specs.Layout.{is_row}
+use Rattle.std.proofs.Common.{◌∙◌, refl, rules}
+use Rattle.layout.specs.declared.frame.Frame.{Frame}
+use Rattle.layout.specs.Layout.{blank, is_row}
 use Rattle.layout.proofs.Told.{row_says}
-use Rattle.layout.proofs.Calls.{past_role}
+use Rattle.frames.proofs.Asked.{asked}
 use Rattle.frames.proofs.store.Frames.is_row.Goals as goal
 
-pub returns-then-n-ge1024 : goal.returns-then-n-ge1024
-returns-then-n-ge1024 c = sym (ap is_row (past_role c.args.self.now.sound c.args.n c.if-n-ge1024.true)) ∙ row_says _ _
+pub returns : goal.returns
+returns c = asked (λ (f : Frame). is_row f.role) c.args.self.now.frames c.args.n blank c.get.result _ _ refl (c.get.ensures.lookup.4 (search rules)) (λ x q. search rules) c.is_some_and.ensures ∙ row_says _ _
