@@ -1,4 +1,2 @@
 pub mod Lists
 pub mod Keeping
-pub mod Shown
-pub mod Held

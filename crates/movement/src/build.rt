@@ -12,7 +12,8 @@ use store::token::{Basket, Exn, Refusal};
 use vocabulary::fault::StoreFault;
 
 // A store, and the log of the calls on it. Which reports are held changes with each call, so each asks it of its report, and
-// it is no invariant.
+// it is no invariant. Where a call can be refused, each arm notes it and moves or keeps a value, so no method of `Result`
+// serves.
 #[derive(Drop)]
 struct Session {
     store: Store,
