@@ -1,5 +1,5 @@
 -- What the errors of reports and chains are asked for.
-use Rattle.std.specs.Prelude.{◌≡◌, ℕ, ◌<◌, ◌≤◌, List, length, Some, None, Ok, Err, Result}
+use Rattle.std.specs.Prelude.{◌≡◌, ℕ, ◌<◌, ◌≤◌, List, ◌++◌, length, drop, Some, None, Ok, Err, Result}
 use Rattle.vocabulary.specs.declared.fault.StoreFault.{StoreFault}
 use Rattle.vocabulary.specs.declared.fault.StoreFault.TheVariants.{NotHeld, Host, NoFrames, ListTooShort, NotFlattening}
 use Rattle.model.specs.Host.{Errors}
@@ -19,6 +19,13 @@ use Rattle.chains.specs.Errors.{shown, unmarked}
 pub record ErrorsOf (h : Errors) (t : Tree) (list list' : List Node) (n : ℕ) : Type 0 where
   pub count : n ≡ length (unmarked h (errors_of h t))
   pub written : list' ≡ shown (unmarked h (errors_of h t)) (length (flattening h t)) list
+
+-- the flattening of a report stands at the front of the list, and the report stays; refused as a flattening is
+abbrev pub ReportNodes : Store → Errors → Exn → List Node → List Node → Result ℕ StoreFault → Type 0
+ReportNodes s h x list list' (Ok n) =
+    (flatten_cause s h x (length list) ≡ None)
+    × ((t : Tree) → (ledger_of s).reports x.root ≡ Some t → (n ≡ length (flattening h t)) × (list' ≡ flattening h t ++ drop n list))
+ReportNodes s h x list list' (Err f) = (flatten_cause s h x (length list) ≡ Some f) × (list' ≡ list)
 
 -- of a report: refused as a flattening is
 abbrev pub ReportErrors : Store → Errors → Exn → List Node → List Node → Result ℕ StoreFault → Type 0

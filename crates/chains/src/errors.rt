@@ -14,7 +14,7 @@ fn is_marker<H: Host>(host: &H, error: FrameError) -> bool
     host.kind(error.number()).is_ok_and(|kind| kind.is_marker())
 }
 
-// A node that has nothing but an error. A constructor of `Node` would be no plainer: no other place makes such nodes.
+// A node that has nothing but an error.
 fn error_node(error: FrameError) -> Node
     ensures { result ≡ error_node error }
 {

@@ -1,5 +1,5 @@
-// The errors of reports and chains, breadth-first. Host and list are lent to each call, as to the store's.
-ghost use Rattle.chains.specs.Iter.{ChainErrors, ReportErrors};
+// The nodes of reports, and the errors of reports and chains, breadth-first. Host and list are lent to each call, as to the store's.
+ghost use Rattle.chains.specs.Iter.{ChainErrors, ReportErrors, ReportNodes};
 
 use crate::errors::keep_errors;
 use checks::check::check_flattening;
@@ -10,6 +10,19 @@ use store::store::Store;
 use store::token::Exn;
 use traversal::report::flatten_report;
 use vocabulary::fault::StoreFault;
+
+// Writes the flattening of a report to the front of a list, and answers how many nodes it has. The report stays.
+pub fn list_nodes<H: Host>(
+    store: &Store,
+    host: &H,
+    report: &Exn,
+    list: &mut [Node],
+) -> Result<usize, StoreFault>
+    ensures { ReportNodes store.now (H.Host.errors host.now) report.now list.old list.new result }
+{
+    let root = store.root_of(report)?;
+    flatten_report(host, store.frames(), root, list)
+}
 
 // Fills a list with the errors of a report that are no markers, and answers how many they are. The list is zeroed behind
 // them, up to the number of the report's nodes.

@@ -1,17 +1,20 @@
 -- What a call made is known from what came of it beside what was handed in.
-use Rattle.std.proofs.Common.{◌≡◌, ℕ, Bool, true, false, Ok, Err, Result, sym, refl, ap, ◌∙◌, subst}
+use Rattle.std.proofs.Common.{◌≡◌, ℕ, Bool, true, false, None, Option, Ok, Err, Result, sym, refl, ap, ◌∙◌, subst}
 use Rattle.std.proofs.lemmas.Bool.{and_parts}
 use Rattle.vocabulary.specs.declared.fault.StoreFault.{StoreFault}
 use Rattle.vocabulary.specs.declared.frame_error.FrameError.{FrameError}
 use Rattle.vocabulary.specs.declared.frame_error.FrameError.TheVariants.{Host}
 use Rattle.model.specs.Host.{Errors}
+use Rattle.layout.specs.Calls.{Drained}
+use Rattle.frames.specs.Of.{frames_of}
+use Rattle.store.proofs.Rows.{drains_as, drains_known}
 use Rattle.ledger.specs.Causes.{frame_cause, held}
 use Rattle.ledger.specs.Ledger.{Ledger}
 use Rattle.store.specs.Accepted.{beside}
-use Rattle.store.specs.Calls.{FrameMade, NewExn, token_held}
+use Rattle.store.specs.Calls.{DrainedInto, FrameMade, NewExn, report_held, token_held}
 use Rattle.store.specs.Roots.{OverNew, Raises}
 use Rattle.store.specs.Store.{ledger_of, Became}
-use Rattle.store.specs.Token.{Exn}
+use Rattle.store.specs.Token.{Basket, Exn}
 use Rattle.store.specs.declared.store.Store.{Store}
 use Rattle.store.specs.declared.token.Refusal.{Refusal}
 use Rattle.store.specs.declared.token.Token.{Token}
@@ -46,3 +49,15 @@ module _ {R : Type 0} {is_live : Ledger → R → Bool} {is_apart : R → ℕ �
         fresh = frame.1;
         open_exn = record { store = over.number; unspent = refl };
       })
+
+-- the children of a report's root are a basket
+pub drained_into : (before after : Store) (x : Exn) (n : ℕ) (head : Option ℕ) (b : Basket) → report_held before x ≡ true → n ≡ x.root → after.number ≡ before.number
+    → Drained (frames_of before.frames) (frames_of after.frames) n head → b ≡ record { store = after.number; root = head; spent = false } → DrainedInto before after x b
+drained_into before after x n head b v e same d q =
+    let d' = subst (λ (k : ℕ). Drained (frames_of before.frames) (frames_of after.frames) k head) e d in
+    subst (λ (b : Basket). DrainedInto before after x b) (sym q)
+    (record {
+      granted = record { free = ap (λ (t : Bool). held t None) v; became = record { number = same; holds = drains_as before after x.root head d' } };
+      known = drains_known before after x.root head d';
+      open_basket = record { store = same; unspent = refl };
+    })

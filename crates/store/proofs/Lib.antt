@@ -1,5 +1,6 @@
-pub mod Baskets
+pub mod Rows
 pub mod Clients
 pub mod Chains
 pub mod Trees
 pub mod Accepted
+pub mod Reached

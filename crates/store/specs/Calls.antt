@@ -1,13 +1,13 @@
 -- What the building calls answer and leave.
-use Rattle.std.specs.Prelude.{◌≡◌, ℕ, Bool, false, cond, not, ◌&&◌, [], Some, None, Ok, Err, Option, Result, ◌==◌}
+use Rattle.std.specs.Prelude.{◌≡◌, ℕ, Bool, true, false, cond, not, ◌&&◌, is_some, Some, None, Ok, Err, Option, Result, ◌==◌}
 use Rattle.vocabulary.specs.declared.fault.StoreFault.{StoreFault}
 use Rattle.vocabulary.specs.declared.fault.StoreFault.TheVariants.{NotHeld}
 use Rattle.vocabulary.specs.declared.frame_error.FrameError.TheVariants.{Host}
 use Rattle.model.specs.Host.{Errors}
-use Rattle.trees.specs.Listings.{rest_of}
-use Rattle.trees.specs.Trees.{first_root}
+use Rattle.trees.specs.Listings.{children_of}
+use Rattle.trees.specs.Trees.{empty}
 use Rattle.ledger.specs.Causes.{frame_cause, held, is_basket, is_held}
-use Rattle.ledger.specs.Ledger.{Ledger, Drain, Fresh, chained, chained_all, collected, discarded, discarded_all, drained, longer, made, raised, raised_all, row_of, taken}
+use Rattle.ledger.specs.Ledger.{Ledger, Fresh, Known, chained, chained_all, collected, discarded, discarded_all, drained, first_of, first_root, made, raised, raised_all, rest_of, row_of, taken}
 use Rattle.store.specs.Store.{ledger_of, Became}
 use Rattle.store.specs.declared.store.Store.{Store}
 use Rattle.store.specs.declared.token.Refusal.{Refusal}
@@ -92,11 +92,10 @@ Discarded before after x r = Takes before after (held (report_held before x) Non
 abbrev pub DiscardedAll : Store → Store → Basket → Result (Unit {0}) (Refusal Basket) → Type 0
 DiscardedAll before after b r = Takes before after (held (basket_held before b) None) (discarded_all (ledger_of before) b.root) b r
 
--- the children become the row of a new basket; which numbers they get is not determined
+-- the children become the row of a new basket
 pub record DrainedInto (before after : Store) (x : Exn) (b : Basket) : Type 0 where
-  pub granted : Granted before after (held (report_held before x) None) (drained (ledger_of before) x.root (row_of (ledger_of after) b.root))
-  pub drain : Drain (ledger_of before) x.root (row_of (ledger_of after) b.root)
-  pub first : b.root ≡ first_root (row_of (ledger_of after) b.root)
+  pub granted : Granted before after (held (report_held before x) None) (drained (ledger_of before) x.root b.root)
+  pub known : Known (ledger_of before) (children_of ((ledger_of before).reports x.root)) b.root
   pub open_basket : OpenBasket before b
 
 abbrev pub Drained : Store → Store → Exn → Result Basket StoreFault → Type 0
@@ -107,16 +106,20 @@ Drained before after x (Err f) = TurnedDown before after (held (report_held befo
 abbrev pub Collected : Store → Store → Basket → Basket → Exn → Result (Unit {0}) (Refusal Exn) → Type 0
 Collected before after b b' x r =
     Takes before after (held (basket_held before b && report_held before x) None) (collected (ledger_of before) b.root x.root) x r
-    × elim r [ Ok u ↦ b' ≡ record { store = b.store; root = first_root (longer (ledger_of before) b.root x.root); spent = b.spent } | Err t ↦ b' ≡ b ]
+    × elim r [ Ok u ↦ b' ≡ record { store = b.store; root = Some (first_root b.root x.root); spent = b.spent } | Err t ↦ b' ≡ b ]
 
--- the first report of a basket's row, or none of an empty one
+-- the first report of a basket's row: there is one, no report was known by its root, and the others are known by the next
 pub record TakenOut (before after : Store) (b b' : Basket) (y : Exn) : Type 0 where
-  pub granted : Granted before after (held (basket_held before b) None) (taken (ledger_of before) b.root (row_of (ledger_of before) b.root))
-  pub first : Some y.root ≡ first_root (row_of (ledger_of before) b.root)
+  pub granted : Granted before after (held (basket_held before b) None) (taken (ledger_of before) y.root b'.root)
+  pub first : b.root ≡ Some y.root
+  pub tree : is_some (first_of (row_of (ledger_of before) b.root)) ≡ true
+  pub alone : (ledger_of before).reports y.root ≡ None
   pub open_exn : OpenExn before y
-  pub rest : b' ≡ record { store = b.store; root = first_root (rest_of (Some (row_of (ledger_of before) b.root))); spent = b.spent }
+  pub known : Known (ledger_of before) (rest_of (row_of (ledger_of before) b.root)) b'.root
+  pub same : b' ≡ record { store = b.store; root = b'.root; spent = b.spent }
 
+-- or none of an empty one
 abbrev pub Taken : Store → Store → Basket → Basket → Result (Option Exn) StoreFault → Type 0
 Taken before after b b' (Ok (Some y)) = TakenOut before after b b' y
-Taken before after b b' (Ok None) = (held (basket_held before b) None ≡ None) × (row_of (ledger_of before) b.root ≡ []) × (after ≡ before) × (b' ≡ b)
+Taken before after b b' (Ok None) = (held (basket_held before b) None ≡ None) × (row_of (ledger_of before) b.root ≡ empty) × (after ≡ before) × (b' ≡ b)
 Taken before after b b' (Err f) = TurnedDown before after (held (basket_held before b) None) f × (b' ≡ b)

@@ -6,11 +6,12 @@ use Rattle.model.specs.Host.{Errors, Extends}
 use Rattle.trees.specs.Trees.{Tree, frames}
 use Rattle.nodes.specs.declared.node.Node.{Node}
 use Rattle.nodes.specs.Begins.{FirstBad, Flat, Flattens}
+use Rattle.nodes.specs.Check.{explicit_count}
 use Rattle.nodes.specs.Flattening.{flattening}
 use Rattle.ledger.specs.Causes.{held, list_cause}
-use Rattle.ledger.specs.Ledger.{Fresh, discarded, free, rebuilt}
+use Rattle.ledger.specs.Ledger.{Ledger, Fresh, discarded, free, rebuilt}
 use Rattle.store.specs.Calls.{Granted, OpenExn, TurnedDown, report_held}
-use Rattle.store.specs.Store.{Became, ledger_of}
+use Rattle.store.specs.Store.{Became, Holds, ledger_of}
 use Rattle.store.specs.declared.chain.ChainedError.{ChainedError}
 use Rattle.store.specs.declared.store.Store.{Store}
 use Rattle.store.specs.Token.{Exn}
@@ -42,21 +43,24 @@ abbrev pub Flattened : Store → Store → Errors → Exn → List Node → List
 Flattened before after h x list list' (Ok c) = ChainOf before after h x list list' c
 Flattened before after h x list list' (Err t) = TurnedDown before after (flatten_cause before h x (length list)) t.fault × (t.given ≡ x) × (list' ≡ list)
 
--- a list is the flattening of a tree, which is now a report under a number that was no root; every other tree flattens otherwise
+-- a list is the flattening of a tree, with a frame for each node that is no source; it is now a report under a number that
+-- was no root, and every other tree flattens otherwise
 pub record TreeBuilt (before after : Store) (h : Errors) (xs : List Node) (root : ℕ) : Type 0 where
   pub tree : Tree
   pub flattens : Flattens h xs tree
   pub only : (t : Tree) → flattening h t ≡ xs → t ≡ tree
+  pub explicit : frames tree.children + 1 ≡ explicit_count xs
   pub room : frames tree.children + 1 ≤ free (ledger_of before)
   pub fresh : Fresh (ledger_of before) root
   pub became : Became before after (rebuilt (ledger_of before) tree root)
 
 -- it is the flattening of a tree for which fewer frames are free than it needs, which is `n`
-pub record TooFew (before : Store) (h : Errors) (xs : List Node) (n : ℕ) : Type 0 where
+pub record TooFew (l : Ledger) (h : Errors) (xs : List Node) (n : ℕ) : Type 0 where
   pub tree : Tree
   pub flattens : Flattens h xs tree
+  pub only : (t : Tree) → flattening h t ≡ xs → t ≡ tree
   pub need : n ≡ frames tree.children + 1
-  pub few : free (ledger_of before) < n
+  pub few : free l < n
 
 -- it is no flattening, and this is the first index that shows it
 pub record NoTree (h : Errors) (xs : List Node) (i : ℕ) : Type 0 where
@@ -64,18 +68,25 @@ pub record NoTree (h : Errors) (xs : List Node) (i : ℕ) : Type 0 where
   pub none : Flat h xs → ⊥
 
 -- why a list is not built into a tree
-abbrev pub Unbuilt : Store → Errors → List Node → StoreFault → Type 0
-Unbuilt before h xs NotHeld = ⊥
-Unbuilt before h xs (Host f) = ⊥
-Unbuilt before h xs (NoFrames n) = TooFew before h xs n
-Unbuilt before h xs (ListTooShort n) = ⊥
-Unbuilt before h xs (NotFlattening i) = NoTree h xs i
+abbrev pub Unbuilt : Ledger → Errors → List Node → StoreFault → Type 0
+Unbuilt l h xs NotHeld = ⊥
+Unbuilt l h xs (Host f) = ⊥
+Unbuilt l h xs (NoFrames n) = TooFew l h xs n
+Unbuilt l h xs (ListTooShort n) = ⊥
+Unbuilt l h xs (NotFlattening i) = NoTree h xs i
 
 abbrev pub RootBuilt : Store → Store → Errors → List Node → Result ℕ StoreFault → Type 0
 RootBuilt before after h xs (Ok root) = TreeBuilt before after h xs root
-RootBuilt before after h xs (Err f) = Unbuilt before h xs f × (after ≡ before)
+RootBuilt before after h xs (Err f) = Unbuilt (ledger_of before) h xs f × (after ≡ before)
 
 -- a chain becomes the report of its tree; or it comes back, and nothing changes
 abbrev pub Rebuilt : Store → Store → Errors → ChainedError → List Node → Result Exn (Refusal ChainedError) → Type 0
 Rebuilt before after h c list (Ok y) = TreeBuilt before after h (nodes_in c list) y.root × OpenExn before y
-Rebuilt before after h c list (Err t) = Unbuilt before h (nodes_in c list) t.fault × (after ≡ before) × (t.given ≡ c)
+Rebuilt before after h c list (Err t) = Unbuilt (ledger_of before) h (nodes_in c list) t.fault × (after ≡ before) × (t.given ≡ c)
+
+-- Of a store that calls have led to, by the ledger that they tell: with frames enough free a chain is built exactly where
+-- some tree flattens to it; it becomes that tree, and every other tree flattens otherwise. Else nothing changes.
+abbrev pub RebuiltBy : Store → Store → Ledger → Errors → List Node → Result Exn (Refusal ChainedError) → Type 0
+RebuiltBy before after l h xs (Ok y) =
+    (t : Tree) × Flattens h xs t × ((u : Tree) → flattening h u ≡ xs → u ≡ t) × (frames t.children + 1 ≤ free l) × Fresh l y.root × Holds after (rebuilt l t y.root)
+RebuiltBy before after l h xs (Err t) = Unbuilt l h xs t.fault × (after ≡ before)

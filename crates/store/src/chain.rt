@@ -1,6 +1,8 @@
 // Reports as chains: flattened into the caller's list, and built again.
 ghost use Rattle.std.specs.Prelude.{◌≡◌, length};
-ghost use Rattle.store.specs.Chains.{Flattened, Rebuilt, RootBuilt, nodes_in};
+ghost use Rattle.ledger.specs.Ledger.{Ledger};
+ghost use Rattle.store.specs.Chains.{Flattened, Rebuilt, RebuiltBy, RootBuilt, nodes_in};
+ghost use Rattle.store.specs.Reached.{Reached};
 
 use crate::store::Store;
 use crate::token::{Exn, Refusal, Token, accept, beside};
@@ -32,7 +34,8 @@ impl ChainedError {
         host: &H,
         list: &[Node],
     ) -> Result<Exn, Refusal<ChainedError>>
-        ensures { Rebuilt store.old store.new (H.Host.errors host.now) self list.now result }
+        ensures built { Rebuilt store.old store.new (H.Host.errors host.now) self list.now result }
+        ensures reached { (l : Ledger) → Reached (H.Host.errors host.now) store.old l → RebuiltBy store.old store.new l (H.Host.errors host.now) (nodes_in self list.now) result }
     {
         let (root, _) = beside(store.rebuild(host, self.front(list)), self)?;
         Ok(store.token(root))

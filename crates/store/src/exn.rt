@@ -1,5 +1,6 @@
 // The building calls on reports. Each takes store, host, error and place one by one, and so do the calls beneath it: a
 // struct of them would be built at each call and read once.
+ghost use Rattle.std.specs.Prelude.{◌≡◌};
 ghost use Rattle.store.specs.Calls.{Chained, ChainedAll, Discarded, Drained, Made, Raised, RaisedAll};
 
 use crate::store::Store;
@@ -68,6 +69,13 @@ impl Token<u16> {
         let root = store.root(self)?;
         let head = store.frames.drain(root);
         Ok(store.token(head))
+    }
+
+    // The root, by which it is known.
+    pub fn root(&self) -> u16
+        ensures { result ≡ self.now.root }
+    {
+        self.root
     }
 
     // Frees the frames of the report.

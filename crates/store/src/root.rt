@@ -8,6 +8,7 @@ ghost use Rattle.store.specs.Raises.{report_raises, row_raises};
 ghost use Rattle.store.specs.Store.{ledger_of, Became};
 
 use crate::store::Store;
+use crate::token::Token;
 
 pub(crate) trait Root: Copy {
     // Whether a ledger has its reports.
@@ -108,5 +109,14 @@ impl Root for Option<u16> {
         if let Some(head) = self {
             store.frames.discard_row(head);
         }
+    }
+}
+
+impl Token<Option<u16>> {
+    // The root of the first report, by which the basket is known.
+    pub fn first(&self) -> Option<u16>
+        ensures { result ≡ self.now.root }
+    {
+        self.root
     }
 }

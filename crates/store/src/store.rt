@@ -1,11 +1,11 @@
-ghost use Rattle.std.specs.Prelude.{◌≡◌, true, false, cond, Some, Ok, Err};
+ghost use Rattle.std.specs.Prelude.{◌≡◌, true, false, cond, is_some, Some, Ok, Err};
 ghost use Rattle.vocabulary.specs.declared.fault.StoreFault.TheVariants.{NotHeld};
-ghost use Rattle.trees.specs.Listings.{rest_of};
-ghost use Rattle.trees.specs.Trees.{first_root};
 ghost use Rattle.layout.specs.Invariant.{WellFormed};
 ghost use Rattle.ledger.specs.Causes.{is_row};
-ghost use Rattle.ledger.specs.Ledger.{collected, free as free_in, longer, nothing, row_of, taken};
+ghost use Rattle.model.specs.Host.{Errors};
+ghost use Rattle.ledger.specs.Ledger.{Ledger, Known, collected, first_of, first_root, free as free_in, nothing, rest_of, row_of, taken};
 ghost use Rattle.store.specs.Calls.{FrameMade, held_root, token_held};
+ghost use Rattle.store.specs.Reached.{Reached, Stands};
 ghost use Rattle.store.specs.Roots.{is_report};
 ghost use Rattle.store.specs.Store.{ledger_of, Became, Holds};
 
@@ -24,7 +24,7 @@ pub struct Store {
 }
 
 impl Store {
-    // A store without reports. No two stores in use share a number.
+    // A store without reports. No two stores in use may share a number: that is the program's to see to.
     pub fn new(number: u32) -> Store
         ensures number { result.number ≡ number }
         ensures empty { Holds result nothing }
@@ -43,9 +43,12 @@ impl Store {
     }
 
     // Does nothing: its contract says of the links of every store's frames that each frame is free or belongs to exactly
-    // one report, and that no frame is its own ancestor.
+    // one report, and that no frame is its own ancestor; and of a store that calls have led to, that it holds what the
+    // ledger of their arguments and answers says, with all errors there live.
+    #[tactic(auto, using(crate::proofs::Reached::stands))]
     pub fn well_formed(&self)
-        ensures { WellFormed self.now.frames.frames self.now.frames.free }
+        ensures links { WellFormed self.now.frames.frames self.now.frames.free }
+        ensures reached { (h : Errors) (l : Ledger) → Reached h self.now l → Stands h self.now l }
     {
         self.frames.well_formed();
     }
@@ -92,6 +95,7 @@ impl Store {
     }
 
     // A new frame for an error of the host.
+    #[tactic(auto, using(crate::proofs::Rows::begins_as))]
     pub(crate) fn begin<H: Host>(
         &mut self,
         host: &H,
@@ -107,23 +111,24 @@ impl Store {
     }
 
     // Puts a report at the end of a basket's row, and answers the root of the row's first report.
-    #[tactic(auto, using(crate::proofs::Baskets::basket_row, crate::proofs::Baskets::longer_last, crate::proofs::Baskets::collects))]
+    #[tactic(auto, using(crate::proofs::Rows::basket_row, crate::proofs::Rows::collects_as, crate::proofs::Rows::collects_first))]
     pub(crate) fn push(&mut self, head: Option<u16>, root: u16) -> u16
         requires begun { is_row (ledger_of self.old) head ≡ true }
         requires live { is_report (ledger_of self.old) root ≡ true }
         ensures became { Became self.old self.new (collected (ledger_of self.old) head root) }
-        ensures first { Some result ≡ first_root (longer (ledger_of self.old) head root) }
+        ensures first { result ≡ first_root head root }
     {
         self.frames.append(head, root)
     }
 
     // Takes the first report out of a row, and answers the root of the next.
-    #[tactic(auto, using(crate::proofs::Baskets::takes, crate::proofs::Baskets::first_is))]
+    #[tactic(auto, using(crate::proofs::Rows::basket_row, crate::proofs::Rows::takes_as, crate::proofs::Rows::takes_tree, crate::proofs::Rows::takes_alone, crate::proofs::Rows::takes_known))]
     pub(crate) fn pop(&mut self, head: u16) -> Option<u16>
         requires { is_row (ledger_of self.old) (Some head) ≡ true }
-        ensures became { Became self.old self.new (taken (ledger_of self.old) (Some head) (row_of (ledger_of self.old) (Some head))) }
-        ensures first { Some head ≡ first_root (row_of (ledger_of self.old) (Some head)) }
-        ensures rest { result ≡ first_root (rest_of (Some (row_of (ledger_of self.old) (Some head)))) }
+        ensures became { Became self.old self.new (taken (ledger_of self.old) head result) }
+        ensures tree { is_some (first_of (row_of (ledger_of self.old) (Some head))) ≡ true }
+        ensures alone { (ledger_of self.old).reports head ≡ None }
+        ensures known { Known (ledger_of self.old) (rest_of (row_of (ledger_of self.old) (Some head))) result }
     {
         self.frames.pop(head)
     }

@@ -33,12 +33,16 @@ used-none = total_zero 1024 (λ j. 0 + 0) (λ j. refl)
 pub used_same : (g g' : ℕ → Option Tree) (h h' : ℕ → Option Listing) → ((j : ℕ) → g j ≡ g' j) → ((j : ℕ) → h j ≡ h' j) → used g h ≡ used g' h'
 used_same g g' h h' p q = grind (arith, nat_tests)
 
-pub used_report : (g : ℕ → Option Tree) (h : ℕ → Option Listing) (i : ℕ) (v : Option Tree) → i < 1024 → used (update eqb g i v) h + in_report (g i) ≡ used g h + in_report v
-used_report g h i v lt =
-    let a = total_but 1024 (λ j. in_report (g j) + in_row (h j)) (λ j. in_report (update eqb g i v j) + in_row (h j)) i lt
-    (λ j n. ap (λ (t : Option Tree). in_report t + in_row (h j)) (update_apart g i v j n)) in
+-- one report changes, whatever the rows weigh
+pub report_changes : (g : ℕ → Option Tree) (w : ℕ → ℕ) (i : ℕ) (v : Option Tree) → i < 1024 → total 1024 (λ j. in_report (update eqb g i v j) + w j) + in_report (g i) ≡ total 1024 (λ j. in_report (g j) + w j) + in_report v
+report_changes g w i v lt =
+    let a = total_but 1024 (λ j. in_report (g j) + w j) (λ j. in_report (update eqb g i v j) + w j) i lt
+    (λ j n. ap (λ (t : Option Tree). in_report t + w j) (update_apart g i v j n)) in
     let b = ap in_report (update_here g i v) in
     omega arith
+
+pub used_report : (g : ℕ → Option Tree) (h : ℕ → Option Listing) (i : ℕ) (v : Option Tree) → i < 1024 → used (update eqb g i v) h + in_report (g i) ≡ used g h + in_report v
+used_report g h i v lt = report_changes g (λ j. in_row (h j)) i v lt
 
 pub used_row : (g : ℕ → Option Tree) (h : ℕ → Option Listing) (i : ℕ) (v : Option Listing) → i < 1024 → used g (update eqb h i v) + in_row (h i) ≡ used g h + in_row v
 used_row g h i v lt =
