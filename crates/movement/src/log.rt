@@ -1,4 +1,5 @@
 use arrayvec::ArrayVec;
+use nodes::node::Node;
 use std::fmt;
 use store::store::Store;
 use vocabulary::fault::StoreFault;
@@ -14,6 +15,8 @@ pub enum Call {
     Drain,
     Take,
     Chain,
+    IntoChain,
+    IntoExn,
     Discard,
 }
 
@@ -27,6 +30,8 @@ impl fmt::Display for Call {
             Call::Drain => "drain_children",
             Call::Take => "take",
             Call::Chain => "chain",
+            Call::IntoChain => "into_chain",
+            Call::IntoExn => "into_exn",
             Call::Discard => "discard",
         })
     }
@@ -57,16 +62,29 @@ impl fmt::Display for Step {
     }
 }
 
-// The calls so far, at most 24; those after them are not kept.
+// A line of the log: a call, or a node of a chain with its index.
+#[derive(Clone, Copy)]
+pub enum Line {
+    Call(Step),
+    Node(usize, Node),
+}
+
+impl Default for Line {
+    fn default() -> Line {
+        Line::Call(Step::default())
+    }
+}
+
+// The calls so far and the nodes of chains, at most 64 lines; those after them are not kept.
 #[derive(Drop)]
 pub struct Log {
-    steps: ArrayVec<Step, 24>,
+    lines: ArrayVec<Line, 64>,
 }
 
 impl Log {
     pub fn new() -> Log {
         Log {
-            steps: ArrayVec::new(),
+            lines: ArrayVec::new(),
         }
     }
 
@@ -76,10 +94,17 @@ impl Log {
             refused,
             free: store.free(),
         };
-        let _ = self.steps.try_push(step);
+        let _ = self.lines.try_push(Line::Call(step));
     }
 
-    pub fn steps(&self) -> &[Step] {
-        self.steps.as_slice()
+    // Notes the nodes of a chain.
+    pub fn show(&mut self, nodes: &[Node]) {
+        for (index, node) in nodes.iter().enumerate() {
+            let _ = self.lines.try_push(Line::Node(index, *node));
+        }
+    }
+
+    pub fn lines(&self) -> &[Line] {
+        self.lines.as_slice()
     }
 }

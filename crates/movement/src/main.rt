@@ -8,10 +8,13 @@ use drive_host::drive::DriveHost;
 
 mod build;
 mod log;
+mod session;
 
+use crate::log::Line;
 use host::host::Host;
 use host::judge::{dominant_class, retry};
 use host::sources::Chain;
+use nodes::node::Node;
 use std::env;
 use vocabulary::fault::HostFault;
 use vocabulary::kind::Kind;
@@ -45,13 +48,16 @@ fn fault_text(fault: HostFault) -> anyhow::Error {
     }
 }
 
+// The text of an error, in a buffer that is lent for it.
+fn text_of(error: u16, buffer: &mut [u8; 255]) -> anyhow::Result<&str> {
+    let len = DriveHost.text(error, buffer).map_err(fault_text)?;
+    Ok(std::str::from_utf8(&buffer[0..len.min(255)])?)
+}
+
 fn print_error(rt: &HostRuntime, error: u16) -> anyhow::Result<()> {
-    let host = DriveHost;
-    // a host fills a part that is lent to it
     let mut buffer = [0u8; 255];
-    let kind = host.kind(error).map_err(fault_text)?;
-    let len = host.text(error, &mut buffer).map_err(fault_text)?;
-    let text = std::str::from_utf8(&buffer[0..len.min(255)])?;
+    let kind = DriveHost.kind(error).map_err(fault_text)?;
+    let text = text_of(error, &mut buffer)?;
     match detail(kind) {
         Some(more) => println!(rt; "  {error:>2}  {text:<9} {kind} {more}")?,
         None => println!(rt; "  {error:>2}  {text:<9} {kind}")?,
@@ -81,11 +87,30 @@ fn print_account(rt: &HostRuntime, error: u16) -> anyhow::Result<()> {
     print_calls(rt)
 }
 
-// What the building calls answered, one to a line.
+// A node of a chain: its index, error and place, and whether it is a source of its parent's error or a child of its frame.
+fn print_node(rt: &HostRuntime, index: usize, node: &Node) -> anyhow::Result<()> {
+    let mut buffer = [0u8; 255];
+    let error = node.error.number();
+    let text = text_of(error, &mut buffer)?;
+    let place = node.place;
+    let tie = if node.native { "source of" } else { "child of" };
+    match node.parent {
+        Some(parent) => println!(rt;
+            "    {index:>2}  {error:>2} {text:<9} place {place}, {tie} {parent}"
+        )?,
+        None => println!(rt; "    {index:>2}  {error:>2} {text:<9} place {place}, the root")?,
+    }
+    Ok(())
+}
+
+// What the building calls answered, one to a line, and the nodes of the chain that one made.
 fn print_calls(rt: &HostRuntime) -> anyhow::Result<()> {
     println!(rt; "As reports in a store of 1024 frames:")?;
-    for step in build::run().steps() {
-        println!(rt; "  {step}")?;
+    for line in build::run().lines() {
+        match line {
+            Line::Call(step) => println!(rt; "  {step}")?,
+            Line::Node(index, node) => print_node(rt, *index, node)?,
+        }
     }
     Ok(())
 }

@@ -1,1 +1,2 @@
 pub mod Over
+pub mod Taken

@@ -16,11 +16,11 @@ impl Bench {
         (self.number != other.number).then_some(())
     }
 
-    pub fn raise_in(&mut self, other: &mut Bench) -> Option<StoreFault> {
+    pub fn raise_in(&mut self, other: &mut Bench, error: u16) -> Option<StoreFault> {
         self.apart(other)?;
         let report = self.report.take()?;
         let Refusal { fault, given } = report
-            .raise(&mut other.store, &DriveHost, 0, 0)
+            .raise(&mut other.store, &DriveHost, error, 0)
             .unwrap_err();
         self.report = Some(given);
         Some(fault)
@@ -86,14 +86,14 @@ impl Bench {
         Some(basket.take(&mut other.store).unwrap_err())
     }
 
-    pub fn raise_all_in(&mut self, other: &mut Bench) -> Option<StoreFault> {
+    pub fn raise_all_in(&mut self, other: &mut Bench, error: u16) -> Option<StoreFault> {
         self.apart(other)?;
         let basket = self.basket.take()?;
         let Refusal { fault, given } = Exn::raise_all(
             &mut other.store,
             &DriveHost,
             basket,
-            0,
+            error,
             0,
         ).unwrap_err();
         self.basket = Some(given);
@@ -107,6 +107,16 @@ impl Bench {
         let basket = self.basket.take()?;
         let Refusal { fault, given } = onto.chain_all(&mut other.store, basket).unwrap_err();
         self.basket = Some(given);
+        Some(fault)
+    }
+
+    // The reports of the other's basket to be children of the report, in the other's store.
+    pub fn chain_all_onto(&mut self, other: &mut Bench) -> Option<StoreFault> {
+        self.apart(other)?;
+        let onto = self.report.as_ref()?;
+        let basket = other.basket.take()?;
+        let Refusal { fault, given } = onto.chain_all(&mut other.store, basket).unwrap_err();
+        other.basket = Some(given);
         Some(fault)
     }
 

@@ -10,6 +10,10 @@ mod granted;
 #[cfg(test)]
 mod mixed;
 #[cfg(test)]
+mod plain_ledger;
+#[cfg(test)]
 mod refused;
 #[cfg(test)]
 mod rows;
+#[cfg(test)]
+mod tree;

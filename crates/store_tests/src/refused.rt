@@ -44,7 +44,7 @@ fn reports_of_another_store(rt: HostRuntime) -> Result<(), Fail> {
     let mut one = two(1)?;
     let mut other = two(2)?;
     let refused = Some(StoreFault::NotHeld);
-    assert_eq!(rt; one.raise_in(&mut other), refused);
+    assert_eq!(rt; one.raise_in(&mut other, 0), refused);
     assert_eq!(rt; one.chain_in(&mut other), refused);
     assert_eq!(rt; one.chain_onto(&mut other), refused);
     assert_eq!(rt; one.collect_in(&mut other), refused);
@@ -66,8 +66,9 @@ fn baskets_of_another_store(rt: HostRuntime) -> Result<(), Fail> {
     let refused = Some(StoreFault::NotHeld);
     assert_eq!(rt; one.collect_from(&mut other), refused);
     assert_eq!(rt; one.take_in(&mut other), refused);
-    assert_eq!(rt; one.raise_all_in(&mut other), refused);
+    assert_eq!(rt; one.raise_all_in(&mut other, 0), refused);
     assert_eq!(rt; one.chain_all_in(&mut other), refused);
+    assert_eq!(rt; one.chain_all_onto(&mut other), refused);
     assert_eq!(rt; one.discard_all_in(&mut other), refused);
     assert_eq!(rt; one.free(), 1021);
     assert_eq!(rt; other.free(), 1021);
@@ -85,7 +86,7 @@ fn empty_baskets_of_another_store(rt: HostRuntime) -> Result<(), Fail> {
     let refused = Some(StoreFault::NotHeld);
     one.open()?;
     assert_eq!(rt; one.take_in(&mut other), refused);
-    assert_eq!(rt; one.raise_all_in(&mut other), refused);
+    assert_eq!(rt; one.raise_all_in(&mut other, 0), refused);
     assert_eq!(rt; one.chain_all_in(&mut other), refused);
     assert_eq!(rt; one.discard_all_in(&mut other), refused);
     assert_eq!(rt; other.free(), 1021);
