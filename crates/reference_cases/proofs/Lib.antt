@@ -1,0 +1,2 @@
+mod Ledgers
+mod Lists
