@@ -1,0 +1,7 @@
+pub mod State
+pub mod Step
+pub mod Law
+pub mod Held
+pub mod Tokens
+pub mod Session
+pub mod Built
