@@ -1,0 +1,5 @@
+pub mod Words
+pub mod Text
+pub mod Statements
+pub mod Lines
+pub mod Once

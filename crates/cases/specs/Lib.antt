@@ -1,0 +1,4 @@
+pub mod Words
+pub mod Spelling
+pub mod Valid
+pub mod Reading
