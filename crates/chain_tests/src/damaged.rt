@@ -7,7 +7,7 @@ use chains::iter::iter_chain_errors;
 use checks::check::first_bad;
 use drive_host::drive::DriveHost;
 use host::host::Host;
-use nodes::node::{Line, Node, Note};
+use nodes::node::{Node, Note, Plan};
 use std::alloc::Global;
 use std::process::Abort;
 use std::test::Fail;
@@ -17,12 +17,11 @@ use store::token::Refusal;
 use vocabulary::fault::StoreFault;
 use vocabulary::frame_error::FrameError;
 
-const LINE: Line = Line {
-    next: 0,
-    branch: 0,
-    level: 0,
-    number: 0,
-    followed: false,
+const PLAN: Plan = Plan {
+    marker: true,
+    first: None,
+    next: None,
+    line: None,
 };
 
 // The node with one of its fields changed, in every way that is tried.
@@ -64,10 +63,13 @@ fn changed(
         all.push(Node { parent, ..node })?;
     }
     for note in [
-        Note::Marker,
+        Note::Planned(PLAN),
+        Note::Planned(Plan {
+            marker: false,
+            ..PLAN
+        }),
         Note::Several,
         Note::Single(node.error),
-        Note::Line(LINE),
     ] {
         all.push(Node { note, ..node })?;
     }

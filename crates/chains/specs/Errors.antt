@@ -1,16 +1,10 @@
 -- The errors of nodes that are no markers, put into a list.
-use Rattle.std.specs.Prelude.{ℕ, ◌-◌, false, not, List, ◌++◌, map, length, drop, replicate, None}
-use Rattle.std.specs.List.{filter}
+use Rattle.std.specs.Prelude.{ℕ, ◌-◌, false, List, ◌++◌, map, length, drop, replicate, None}
 use Rattle.vocabulary.specs.declared.frame_error.FrameError.{FrameError}
 use Rattle.vocabulary.specs.declared.frame_error.FrameError.TheVariants.{Host}
-use Rattle.model.specs.Host.{Errors}
 use Rattle.nodes.specs.declared.node.Node.{Node}
 use Rattle.nodes.specs.declared.node.Note.TheVariants.{Clear}
-use Rattle.readings.specs.Readings.{marker_in}
-
--- the errors that are no markers
-abbrev pub unmarked : Errors → List FrameError → List FrameError
-unmarked h es = filter (λ (e : FrameError). not (marker_in h e)) es
+pub use Rattle.readings.specs.Readings.{unmarked}
 
 -- a node that has nothing but an error
 abbrev pub error_node : FrameError → Node

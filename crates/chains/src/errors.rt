@@ -1,18 +1,11 @@
 // The errors of nodes that are no markers.
 ghost use Rattle.std.specs.Prelude.{◌≡◌, length};
-ghost use Rattle.readings.specs.Readings.{marker_in};
 ghost use Rattle.chains.specs.Errors.{error_node, errors_in, shown_part, unmarked};
 
 use host::host::Host;
 use nodes::node::{Node, Note};
+use traversal::marker::is_marker;
 use vocabulary::frame_error::FrameError;
-
-// Whether an error is a marker.
-fn is_marker<H: Host>(host: &H, error: FrameError) -> bool
-    ensures { result ≡ marker_in (H.Host.errors host.now) error }
-{
-    host.kind(error.number()).is_ok_and(|kind| kind.is_marker())
-}
 
 // A node that has nothing but an error.
 fn error_node(error: FrameError) -> Node

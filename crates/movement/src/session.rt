@@ -5,20 +5,10 @@ ghost use Rattle.movement.specs.Slots.{in_slot};
 
 use crate::log::{Call, Log};
 use drive_host::drive::DriveHost;
-use nodes::node::{Node, Note};
+use nodes::node::{BLANK, Node};
 use store::chain::ChainedError;
 use store::store::Store;
 use store::token::{Basket, Exn, Refusal};
-use vocabulary::frame_error::FrameError;
-
-// A node of a list that nothing is written into yet.
-const BLANK: Node = Node {
-    error: FrameError::Host(0),
-    place: 0,
-    native: false,
-    parent: None,
-    note: Note::Clear,
-};
 
 // A store, the report and the basket that are worked on, and the log of the calls. It has no `drop`: it ends in `finish`.
 // Where a call can be refused, each arm notes it and keeps a value in its slot, so no method of `Result` serves.

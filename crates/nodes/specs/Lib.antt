@@ -5,3 +5,4 @@ pub mod Flattening
 pub mod Begins
 pub mod Queue
 pub mod Check
+pub mod Notes

@@ -1,17 +1,51 @@
 use vocabulary::frame_error::FrameError;
 
-// How the line of a node stands in a printed tree.
+// Where the line of a node stands in a printed tree.
+#[derive(Clone, Copy, PartialEq, Eq)]
+pub enum Position {
+    // the head of a report
+    Head {
+        // whether another report stands before it
+        later: bool,
+        // whether causes stand beneath it
+        has_causes: bool,
+    },
+    // the main chain, whose lines have numbers and no guides
+    Main {
+        number: u32,
+    },
+    // a level of its own, behind guides
+    Nested {
+        // none where the line is alone on its level
+        number: Option<u32>,
+        // which line stands for the level above; none where that is the main chain
+        above: Option<u32>,
+        // whether one of its siblings follows
+        sibling_follows: bool,
+        // whether its only cause follows on the same level
+        chain_continues: bool,
+    },
+}
+
+// A line of a printed tree.
 #[derive(Clone, Copy, PartialEq, Eq)]
 pub struct Line {
-    // the node whose line comes next
-    pub next: u32,
-    // the node under which the line's level begins
-    pub branch: u32,
-    // how many levels deep it stands
-    pub level: u32,
-    pub number: u32,
-    // whether another branch of its level comes after it
-    pub followed: bool,
+    // the index of the node whose text it shows
+    pub node: u32,
+    pub position: Position,
+}
+
+// What a print of a tree puts down beside a node. The lines are not those of the nodes beside which they stand: the first
+// node has the first line, and so on.
+#[derive(Clone, Copy, PartialEq, Eq)]
+pub struct Plan {
+    // whether the node is a marker
+    pub marker: bool,
+    // the first of the causes that are shown beneath the node, those of a marker in its place
+    pub first: Option<u32>,
+    // the one that is shown after the node beneath the same cause
+    pub next: Option<u32>,
+    pub line: Option<Line>,
 }
 
 // What a question or a print puts down beside a node while it works.
@@ -19,9 +53,7 @@ pub struct Line {
 pub enum Note {
     // nothing: so it is in every flattening, and after every call
     Clear,
-    // the node is a marker
-    Marker,
-    Line(Line),
+    Planned(Plan),
     // beneath the node one node that is no marker stands above all others, and the cause beneath it is this error
     Single(FrameError),
     // beneath the node several do
@@ -41,3 +73,12 @@ pub struct Node {
     pub parent: Option<usize>,
     pub note: Note,
 }
+
+// A node that says nothing, for lists that are still to be filled.
+pub const BLANK: Node = Node {
+    error: FrameError::Host(0),
+    place: 0,
+    native: false,
+    parent: None,
+    note: Note::Clear,
+};

@@ -1,5 +1,6 @@
 -- What a report comes to: its pairs, its class, its verdict and its probable cause.
-use Rattle.std.specs.Prelude.{◌≡◌, ℕ, Bool, false, cond, ◌⊎◌, List, [], ◌∷◌, map, is_some, Some, None, Option}
+use Rattle.std.specs.Prelude.{◌≡◌, ℕ, Bool, false, not, cond, ◌⊎◌, List, [], ◌∷◌, map, is_some, Some, None, Option}
+use Rattle.std.specs.List.{filter}
 use Rattle.classes.specs.declared.class.Class.{Class}
 use Rattle.vocabulary.specs.Kind.{is_marker}
 use Rattle.vocabulary.specs.declared.frame_error.FrameError.{FrameError}
@@ -43,6 +44,10 @@ tells_marker (Some m) = is_marker m.kind
 -- whether what a frame holds as its error is a marker
 abbrev pub marker_in : Errors → FrameError → Bool
 marker_in h (Host e) = tells_marker (h e)
+
+-- the errors that are no markers
+abbrev pub unmarked : Errors → List FrameError → List FrameError
+unmarked h es = filter (λ (e : FrameError). not (marker_in h e)) es
 
 -- whether a node is a marker
 abbrev pub marker : Errors → Content → Bool

@@ -4,7 +4,7 @@ ghost use Rattle.std.specs.Prelude.{◌<◌};
 
 use crate::tree::Tree;
 use drive_host::drive::DriveHost;
-use nodes::node::{Node, Note};
+use nodes::node::{BLANK, Node};
 use std::alloc::Global;
 use std::mem;
 use std::process::Abort;
@@ -12,15 +12,6 @@ use store::chain::ChainedError;
 use store::store::Store;
 use store::token::{Basket, Exn, Refusal};
 use vocabulary::fault::{HostFault, StoreFault};
-use vocabulary::frame_error::FrameError;
-
-const BLANK: Node = Node {
-    error: FrameError::Host(0),
-    place: 0,
-    native: false,
-    parent: None,
-    note: Note::Clear,
-};
 
 // The calls whose answers are compared.
 #[derive(Clone, Copy, Debug)]

@@ -4,6 +4,8 @@ use Rattle.vocabulary.specs.declared.fault.HostFault.{HostFault}
 use Rattle.vocabulary.specs.declared.fault.HostFault.TheVariants.{NotLive, TextTooLong}
 use Rattle.vocabulary.specs.declared.fault.LayerFault.{LayerFault}
 use Rattle.vocabulary.specs.declared.fault.LayerFault.TheVariants.{Host, NotNamed, Full}
+use Rattle.vocabulary.specs.declared.fault.PrintFault.{PrintFault}
+use Rattle.vocabulary.specs.declared.fault.PrintFault.TheVariants.{Host as Raised, Store, BufferTooShort}
 use Rattle.vocabulary.specs.declared.fault.StoreFault.{StoreFault}
 use Rattle.vocabulary.specs.declared.fault.StoreFault.TheVariants.{NotHeld, Host as Handed, NoFrames, ListTooShort, NotFlattening}
 
@@ -54,3 +56,17 @@ store_fault_number (Handed f) = host_fault_number f
 store_fault_number (NoFrames n) = no_frames
 store_fault_number (ListTooShort n) = list_too_short
 store_fault_number (NotFlattening i) = not_flattening
+
+-- a print is longer than its buffer: the same number as of a text that is longer than its part
+abbrev pub print_fault_number : PrintFault → ℕ
+print_fault_number (Raised f) = host_fault_number f
+print_fault_number (Store f) = store_fault_number f
+print_fault_number (BufferTooShort n) = too_long
+
+-- a refusal of the store or of a chain as that of a print: a host's refusal stays a host's
+abbrev pub print_fault_of : StoreFault → PrintFault
+print_fault_of NotHeld = Store NotHeld
+print_fault_of (Handed f) = Raised f
+print_fault_of (NoFrames n) = Store (NoFrames n)
+print_fault_of (ListTooShort n) = Store (ListTooShort n)
+print_fault_of (NotFlattening i) = Store (NotFlattening i)

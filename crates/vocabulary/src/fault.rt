@@ -1,7 +1,8 @@
 ghost use Rattle.std.specs.Prelude.{◌≡◌};
 ghost use Rattle.vocabulary.specs.declared.fault.LayerFault.TheVariants.{Host, NotNamed as Unnamed};
 ghost use Rattle.vocabulary.specs.declared.fault.StoreFault.TheVariants.{Host as Handed};
-ghost use Rattle.vocabulary.specs.Refusal.{host_fault_number, layer_fault_number, store_fault_number};
+ghost use Rattle.vocabulary.specs.declared.fault.PrintFault.TheVariants.{Host as Raised};
+ghost use Rattle.vocabulary.specs.Refusal.{host_fault_number, layer_fault_number, print_fault_number, print_fault_of, store_fault_number};
 
 use classes::class::NotNamed;
 
@@ -101,5 +102,49 @@ impl From<HostFault> for StoreFault {
 
     fn from(refused: HostFault) -> StoreFault {
         StoreFault::Host(refused)
+    }
+}
+
+// Why a print is turned down.
+#[derive(Clone, Copy, Debug, PartialEq, Eq)]
+pub enum PrintFault {
+    // the host turned the question down
+    Host(HostFault),
+    // as a call on the store or a chain, by anything but the host
+    Store(StoreFault),
+    // the buffer is too short for the print, which has so many bytes
+    BufferTooShort(usize),
+}
+
+impl PrintFault {
+    // As `HostFault::number`.
+    pub fn number(self) -> u8
+        ensures { result ≡ print_fault_number self }
+    {
+        match self {
+            PrintFault::Host(fault) => fault.number(),
+            PrintFault::Store(fault) => fault.number(),
+            PrintFault::BufferTooShort(_) => 6,
+        }
+    }
+}
+
+impl From<HostFault> for PrintFault {
+    ghost from_gives = { λ f r. r ≡ Raised f };
+
+    fn from(refused: HostFault) -> PrintFault {
+        PrintFault::Host(refused)
+    }
+}
+
+// A host's refusal stays a host's.
+impl From<StoreFault> for PrintFault {
+    ghost from_gives = { λ f r. r ≡ print_fault_of f };
+
+    fn from(refused: StoreFault) -> PrintFault {
+        match refused {
+            StoreFault::Host(fault) => PrintFault::Host(fault),
+            _ => PrintFault::Store(refused),
+        }
     }
 }
