@@ -1,5 +1,5 @@
 -- An error's chain: one step down it, its deepest challenge, its pairs, and what they come to.
-use Rattle.std.proofs.Common.{◌≡◌, ℕ, zero, suc, ◌≤◌, Bool, true, false, cond, not, ◌&&◌, ◌||◌, List, [], ◌∷◌, map, Some, None, Ok, Option, sym, refl, ap, ◌∙◌, subst, arith}
+use Rattle.std.proofs.Common.{◌≡◌, ℕ, zero, suc, ◌≤◌, Bool, true, false, cond, not, ◌&&◌, ◌||◌, List, [], ◌∷◌, map, Some, None, Ok, Option, ◌==◌, sym, refl, ap, ◌∙◌, subst, arith}
 use Rattle.std.proofs.lemmas.Iterator.{YieldsList, items_from_drains}
 use Rattle.std.proofs.lemmas.List.{map-id}
 use Rattle.std.specs.Iterator.{Drains}
@@ -7,12 +7,16 @@ use Rattle.std.specs.List.{filter, fold, last_or}
 use mathlib.Core.Bool.{or_assoc, or-false}
 use Rattle.classes.specs.Class.{lesser}
 use Rattle.classes.specs.declared.class.Class.{Class}
+use Rattle.vocabulary.specs.IoKind.{io_class, io_number}
+use Rattle.vocabulary.specs.declared.io_kind.IoKind.{IoKind}
+use Rattle.vocabulary.specs.declared.kind.Kind.{Kind}
+use Rattle.vocabulary.specs.declared.kind.Kind.TheVariants.{Plain, Message, ClassificationMarker, TryReserveError, Io}
 use Rattle.vocabulary.specs.declared.policy.Pair.{Pair}
 use Rattle.model.specs.Challenge.{or, deepest, beneath}
 use Rattle.model.specs.Host.{Error, Errors, Lawful, answer}
-use Rattle.model.specs.Judge.{any, any_pair, challenge_beneath, is_challenge, least_class, may_retry, pair_of, pairs_of, told}
+use Rattle.model.specs.Judge.{any, any_pair, challenge_beneath, is_challenge, kind_pair, least_class, may_retry, pair_of, pairs_of, told}
 use Rattle.model.specs.Sources.{bound, chain, chain_up_to, chain_from, source_of, LiveOrNone}
-use Rattle.host.specs.Findings.{findings_of, retries}
+use Rattle.host.specs.Findings.{findings_of, is_denied, retries}
 use Rattle.host.specs.declared.judge.Findings.{Findings}
 use Rattle.model.proofs.Judge.{Decided, decided, lesser_assoc, chain_falls, cancelled_least}
 use Rattle.model.proofs.Sources.{enough, source-bound, source-live}
@@ -99,6 +103,22 @@ deepest_is h xs = last_challenge h None xs ∙ or-none (deepest h xs)
     or-none : (a : Option ℕ) → or a None ≡ a
     or-none None = refl
     or-none (Some x) = refl
+
+-- the pair of what is no denied permission does not depend on what stands beneath it
+pub undenied : (o : Option Error) (b : Bool) → is_denied (told o false) ≡ false → told o false ≡ told o b
+undenied None b q = refl
+undenied (Some m) b q = by_kind m.kind q
+  where
+    class_alike : (k : IoKind) (x : Bool) → x ≡ false → cond (x && false) None (io_class (io_number k)) ≡ cond (x && b) None (io_class (io_number k))
+    class_alike k true e = absurd cc
+    class_alike k false e = refl
+
+    by_kind : (k : Kind) → is_denied (kind_pair k false) ≡ false → kind_pair k false ≡ kind_pair k b
+    by_kind Plain e = refl
+    by_kind (Message c) e = refl
+    by_kind (ClassificationMarker c) e = refl
+    by_kind TryReserveError e = refl
+    by_kind (Io k) e = ap (λ (c : Option Class). record { class = c; io_kind = Some k }) (class_alike k (io_number k == 2) e)
 
 -- findings taken pair by pair
 abbrev pub with_pair : (Pair → Bool) → Findings → Pair → Findings

@@ -1,5 +1,7 @@
 -- What some pairs come to under a policy.
-use Rattle.std.specs.Prelude.{ℕ, Bool, not, ◌&&◌, List}
+use Rattle.std.specs.Prelude.{ℕ, Bool, false, not, ◌&&◌, List, Some, None, Option, ◌==◌}
+use Rattle.vocabulary.specs.IoKind.{io_number}
+use Rattle.vocabulary.specs.declared.io_kind.IoKind.{IoKind}
 use Rattle.vocabulary.specs.declared.policy.Pair.{Pair}
 use Rattle.model.specs.Host.{Errors}
 use Rattle.model.specs.Judge.{any_pair, has_rank, least_class, pairs_of}
@@ -13,6 +15,14 @@ findings_of accepts ps = record { class = least_class ps; accepted = any_pair ac
 -- the pairs of an error and of all sources beneath it
 abbrev pub chain_pairs : Errors → ℕ → List Pair
 chain_pairs h e = pairs_of h (chain h e)
+
+-- a denied permission
+abbrev pub denies : Option IoKind → Bool
+denies None = false
+denies (Some k) = io_number k == 2
+
+abbrev pub is_denied : Pair → Bool
+is_denied p = denies p.io_kind
 
 -- the verdict that findings give
 abbrev pub retries : Findings → Bool

@@ -6,7 +6,7 @@ ghost use Rattle.model.specs.Challenge.{beneath, deepest};
 ghost use Rattle.model.specs.Host.{answer};
 ghost use Rattle.model.specs.Judge.{io_error_class, is_challenge, kind_pair, least_class, may_retry, pair_of, told};
 ghost use Rattle.model.specs.Sources.{chain};
-ghost use Rattle.host.specs.Findings.{chain_pairs, findings_of, retries};
+ghost use Rattle.host.specs.Findings.{chain_pairs, findings_of, is_denied, retries};
 
 use crate::host::Host;
 use crate::sources::Chain;
@@ -117,8 +117,15 @@ pub fn pair<H: Host>(host: &H, error: u16) -> Result<Pair, HostFault>
     Ok(pair_in_chain(host, error, challenge))
 }
 
-// What an error and the sources beneath it come to under a policy, in one pass after the deepest challenge is found.
-pub fn judge_chain<H: Host, P: Policy>(
+// Whether a pair is that of a denied permission: its class alone depends on what stands beneath it.
+fn is_denied(pair: Pair) -> bool
+    ensures { result ≡ is_denied pair }
+{
+    pair.io_kind == Some(IoKind::PermissionDenied)
+}
+
+// The same for any chain: in one pass after the deepest challenge is found.
+fn judge_challenged<H: Host, P: Policy>(
     host: &H,
     policy: &P,
     error: u16,
@@ -133,6 +140,25 @@ pub fn judge_chain<H: Host, P: Policy>(
                 found.with(pair, policy.accepts(pair))
             }),
     )
+}
+
+// What an error and the sources beneath it come to under a policy. One pass suffices where no permission is denied.
+pub fn judge_chain<H: Host, P: Policy>(
+    host: &H,
+    policy: &P,
+    error: u16,
+) -> Result<Findings, HostFault>
+    ensures { result ≡ answer (H.Host.errors host.now error) error (λ _. findings_of (P.Policy.accepted policy.now) (chain_pairs (H.Host.errors host.now) error)) }
+{
+    let mut found = Findings::default();
+    for e in Chain::of(host, error)? {
+        let pair = pair_in_chain(host, e, None);
+        if is_denied(pair) {
+            return judge_challenged(host, policy, error);
+        }
+        found = found.with(pair, policy.accepts(pair));
+    }
+    Ok(found)
 }
 
 // The least class among an error and the sources beneath it, or none.

@@ -1,6 +1,6 @@
 -- What is asked of the nodes of a chain.
-use Rattle.std.proofs.Common.{◌≡◌, ℕ, zero, suc, ◌+◌, ◌<◌, Bool, List, [], ◌∷◌, ◌++◌, map, length, get_or, set, take, drop, Some, None, Ok, Err, Option, sym, refl, ap, ◌∙◌, arith}
-use Rattle.std.proofs.lemmas.List.{append_assoc, drop_more, get_or-map, get_or_at, length-map, length-take-le, map-append, map-set, set-get_or, set_at, take_more}
+use Rattle.std.proofs.Common.{◌≡◌, ℕ, zero, suc, ◌+◌, ◌<◌, Bool, List, [], ◌∷◌, map, length, get_or, set, take, drop, Some, None, Ok, Err, Option, sym, refl, ap, ◌∙◌, arith}
+use Rattle.std.proofs.lemmas.List.{drop_more, get_or-map, length-map, map-set, set-get_or}
 use Rattle.std.proofs.lemmas.Simd.{map-map}
 use Rattle.std.specs.List.{filter_map}
 use Rattle.vocabulary.specs.declared.fault.HostFault.{HostFault}
@@ -29,7 +29,8 @@ use Rattle.listed_readings.specs.NodesBack.{content_seen, nodes_back}
 use Rattle.listed_readings.proofs.Causes.{cause_by_nodes}
 use Rattle.listed_readings.proofs.Judging.{frame_errors_of_nodes, judged_by_frames, retries_as_verdict}
 use Rattle.questions.specs.Answers.{ChainAnswer}
-use Rattle.questions.specs.Noted.{cleared, noted}
+use Rattle.nodes.specs.Notes.{cleared}
+use Rattle.questions.specs.Noted.{noted}
 use Rattle.questions.proofs.Gathering.{Gathered, gathered_alone, gathered_more, parent_before, shown_from}
 
 module _ (h : Errors) (span : ℕ) (l : Lawful h span) (xs : List Node) (t : Tree) (w : Flattens h xs t) where
@@ -130,18 +131,6 @@ module _ (h : Errors) (before : List Node) where
           ap (λ (k : Seen FrameError). k or (get_or now 0 blank).error) (q ∙ ap (node_seen (marker_in h (get_or now 0 blank).error) (get_or now 0 blank).error) shows)
           ∙ ap (λ (x : Item Content). node_seen (marker_in h x.value.error) x.value.error (nodes_back h 1 (drop 1 before) (Some 0)) or x.value.error) (sym root)
           ∙ sym (cause_by_nodes h t (get_or before 0 blank) (drop 1 before) (w.lists ∙ drop_more before 0 blank long))
-
--- one node more without its note
-pub cleared_more : (xs now : List Node) (i : ℕ) → now ≡ map cleared (take i xs) ++ drop i xs → i < length xs → set now i (cleared (get_or now i blank)) ≡ map cleared (take (i + 1) xs) ++ drop (i + 1) xs
-cleared_more xs now i q lt =
-    let x = get_or xs i blank in
-    let long : length (map cleared (take i xs)) ≡ i = length-map (take i xs) cleared ∙ length-take-le i xs (omega arith) in
-    let is : now ≡ map cleared (take i xs) ++ (x ∷ drop (i + 1) xs) = q ∙ ap (λ (ys : List Node). map cleared (take i xs) ++ ys) (drop_more xs i blank lt) in
-    ap (λ (ys : List Node). set ys i (cleared (get_or ys i blank))) is
-    ∙ ap (λ (y : Node). set (map cleared (take i xs) ++ (x ∷ drop (i + 1) xs)) i (cleared y)) (get_or_at (map cleared (take i xs)) x (drop (i + 1) xs) blank i long)
-    ∙ set_at (map cleared (take i xs)) x (drop (i + 1) xs) (cleared x) i long
-    ∙ sym (append_assoc (map cleared (take i xs)) (cleared x ∷ []) (drop (i + 1) xs))
-    ∙ ap (λ (ys : List Node). ys ++ drop (i + 1) xs) (sym (ap (map cleared) (take_more xs i blank lt) ∙ map-append cleared (take i xs) (x ∷ [])))
 
 -- as many nodes as a front has are the front
 pub front_part : (k : ℕ) (xs : List Node) → take (length (take k xs)) xs ≡ take k xs

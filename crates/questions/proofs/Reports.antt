@@ -3,6 +3,7 @@ use Rattle.std.proofs.Common.{◌≡◌, ℕ, Bool, true, false, cond, List, [],
 use Rattle.std.specs.List.{filter_map}
 use Rattle.std.proofs.lemmas.Bool.{and_from, and_parts}
 use Rattle.vocabulary.specs.declared.fault.HostFault.{HostFault}
+use Rattle.vocabulary.specs.declared.fault.HostFault.TheVariants.{NotLive}
 use Rattle.vocabulary.specs.declared.fault.StoreFault.{StoreFault}
 use Rattle.vocabulary.specs.declared.fault.StoreFault.TheVariants.{NotHeld, Host as HostRefused}
 use Rattle.vocabulary.specs.declared.frame_error.FrameError.{FrameError}
@@ -24,6 +25,7 @@ use Rattle.store.specs.Token.{Exn}
 use Rattle.store.specs.declared.store.Store.{Store}
 use Rattle.traversal.specs.declared.order.Visit.{Visit}
 use Rattle.traversal.specs.Order.{visited, Ordered}
+use Rattle.traversal.specs.Survey.{or_else}
 use Rattle.traversal.proofs.Reports.{order_is}
 use Rattle.listed_readings.specs.Judged.{if_live, judged}
 use Rattle.listed_readings.proofs.Judging.{judged_by_frames, retries_as_verdict}
@@ -61,9 +63,15 @@ module _ (s : Store) (x : Exn) where
   pub tree_there : (r : ℕ) → Ok r ≡ held_root s x → (t : Tree) × ((ledger_of s).reports x.root ≡ Some t)
   tree_there r q = there ((ledger_of s).reports x.root) (and_parts _ _ (root_held r q).0).1
 
+  pub root_tree : (r : ℕ) → Ok r ≡ held_root s x → (fs : Frames) → fs ≡ s.frames → (t : Tree) → (ledger_of s).reports x.root ≡ Some t → reports_of fs r ≡ Some t
+  root_tree r q fs same t e = ap₂ (λ (k : Frames) (i : ℕ). reports_of k i) same (root_held r q).1 ∙ e
+
+  pub held_live : (r : ℕ) → Ok r ≡ held_root s x → (fs : Frames) → fs ≡ s.frames → is_some (reports_of fs r) ≡ true
+  held_live r q fs same = let t = tree_there r q in ap (λ (o : Option Tree). is_some o) (root_tree r q fs same t.0 t.1)
+
   pub order_frames : (r : ℕ) → Ok r ≡ held_root s x → (fs : Frames) → fs ≡ s.frames → (order copy : List Visit) → Ordered (reports_of fs r) order → copy ≡ order → (t : Tree) → (ledger_of s).reports x.root ≡ Some t
       → map visited copy ≡ frame_list t
-  order_frames r q fs same order copy ordered is t e = order_is (reports_of fs r) order copy t (ap₂ (λ (k : Frames) (i : ℕ). reports_of k i) same (root_held r q).1 ∙ e) ordered is
+  order_frames r q fs same order copy ordered is t e = order_is (reports_of fs r) order copy t (root_tree r q fs same t e) ordered is
 
   module _ (h : Errors) {A : Type 0} (f : Tree → A) where
     pub answered : (r : ℕ) → Ok r ≡ held_root s x → (t : Tree) → (ledger_of s).reports x.root ≡ Some t → unless_caused (live_cause h t None) (f t) ≡ report_answer s h x f
@@ -83,13 +91,36 @@ module _ (s : Store) (x : Exn) where
           go true None q = absurd cc
           go false o q = absurd cc
 
+-- what is asked after a survey
+pub surveyed : {A : Type 0} (o : Option ℕ) (n total : ℕ) (a : A) → Ok total ≡ or_else o n → Ok a ≡ if_live o a
+surveyed None n total a q = refl
+surveyed (Some e) n total a q = absurd cc
+
+pub unsurveyed : {A : Type 0} (o : Option ℕ) (n : ℕ) (a : A) (f : HostFault) → Err f ≡ or_else o n → Err f ≡ if_live o a
+unsurveyed None n a f q = absurd cc
+unsurveyed (Some e) n a f q = let y : f ≡ NotLive e = cc in ap Err y
+
+-- the cause of a report whose errors are all live
+pub live_made : {A : Type 0} (o : Option ℕ) (a b : A) → Ok a ≡ if_live o b → a ≡ b
+live_made None a b q = cc
+live_made (Some e) a b q = absurd cc
+
+module _ (s : Store) (x : Exn) (h : Errors) where
+  pub caused_report : (r : ℕ) → Ok r ≡ held_root s x → (fs : Frames) → fs ≡ s.frames → (found : Result FrameError HostFault)
+      → ((t : Tree) → reports_of fs r ≡ Some t → found ≡ if_live (first_not_live h (errors_of h t)) (cause h t)) → handed found ≡ report_answer s h x (cause h)
+  caused_report r q fs same found is =
+      let t = tree_there s x r q in
+      ap handed (is t.0 (root_tree s x r q fs same t.0 t.1))
+      ∙ handed_live (first_not_live h (errors_of h t.0)) (cause h t.0)
+      ∙ answered s x h (cause h) r q t.0 t.1
+
 -- what is judged along the order of a report
 module _ (s : Store) (x : Exn) (h : Errors) (span : ℕ) (l : Lawful h span) (accepts : Pair → Bool) where
-  pub judged_report : (r : ℕ) → Ok r ≡ held_root s x → (fs : Frames) → fs ≡ s.frames → (order copy : List Visit) → Ordered (reports_of fs r) order → copy ≡ order
-      → handed (judged h accepts (filter_map (λ (v : Visit). Some v.error) copy)) ≡ report_answer s h x (λ t. findings_of accepts (report_pairs h t))
-  judged_report r q fs same order copy ordered is =
+  pub judged_report : (r : ℕ) → Ok r ≡ held_root s x → (fs : Frames) → fs ≡ s.frames → (found : Result Findings HostFault)
+      → ((t : Tree) → reports_of fs r ≡ Some t → found ≡ judged h accepts (listed_errors (frame_list t))) → handed found ≡ report_answer s h x (λ t. findings_of accepts (report_pairs h t))
+  judged_report r q fs same found is =
       let t = tree_there s x r q in
-      ap (λ (es : List FrameError). handed (judged h accepts es)) (order_errors copy ∙ ap listed_errors (order_frames s x r q fs same order copy ordered is t.0 t.1))
+      ap handed (is t.0 (root_tree s x r q fs same t.0 t.1))
       ∙ ap handed (judged_by_frames h span l accepts t.0)
       ∙ handed_live (first_not_live h (errors_of h t.0)) (findings_of accepts (report_pairs h t.0))
       ∙ answered s x h (λ t. findings_of accepts (report_pairs h t)) r q t.0 t.1

@@ -10,15 +10,16 @@ ghost use Rattle.nodes.specs.Begins.{Flat, Flattens};
 ghost use Rattle.readings.specs.Readings.{Cause, cause, class_of, report_pairs, verdict_of};
 ghost use Rattle.store.specs.Chains.{nodes_in};
 ghost use Rattle.questions.specs.Answers.{ChainAnswer};
-ghost use Rattle.questions.specs.Noted.{cleared};
+ghost use Rattle.nodes.specs.Notes.{cleared};
 
-use crate::judging::judge;
+use crate::judging::{Never, judge};
 use crate::seen::{Seen, node_seen};
 use checks::check::check_flattening;
 use classes::class::Class;
 use host::host::Host;
 use host::judge::Findings;
-use nodes::node::{Node, Note};
+use nodes::node::Node;
+use nodes::notes::clear_notes;
 use store::chain::ChainedError;
 use vocabulary::fault::StoreFault;
 use vocabulary::frame_error::FrameError;
@@ -46,7 +47,7 @@ pub fn dominant_class<H: Host>(
 ) -> Result<Option<Class>, StoreFault>
     ensures { ChainAnswer (H.Host.errors host.now) (nodes_in chain.now list.now) (class_of (H.Host.errors host.now)) result }
 {
-    Ok(findings(chain, host, &StandardPolicy::CanRetry, list)?.class)
+    Ok(findings(chain, host, &Never, list)?.class)
 }
 
 // Whether the controller may try again after a chain: no class in it is Cancelled, and the policy accepts one of its errors.
@@ -77,15 +78,6 @@ pub fn can_retry_lenient<H: Host>(
     ensures { ChainAnswer (H.Host.errors host.now) (nodes_in chain.now list.now) (verdict_of (H.Host.errors host.now) (standard CanRetryLenient)) result }
 {
     retry(chain, host, &StandardPolicy::CanRetryLenient, list)
-}
-
-// Takes all notes away.
-fn clear_notes(nodes: &mut [Node])
-    ensures { nodes.new ≡ map cleared nodes.old }
-{
-    for node in nodes.iter_mut() {
-        node.note = Note::Clear;
-    }
 }
 
 // The probable cause of a chain: from the last node to the first, what is seen of each is put down beside its parent. Counted,

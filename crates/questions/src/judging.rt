@@ -7,6 +7,7 @@ ghost use Rattle.model.specs.Host.{answer};
 ghost use Rattle.host.specs.Findings.{chain_pairs, findings_of};
 ghost use Rattle.traversal.specs.declared.order.Visit.{Visit};
 ghost use Rattle.listed_readings.specs.Judged.{both, frame_error, judged};
+ghost use Rattle.questions.specs.Never.{never};
 
 use classes::class::Class;
 use host::host::Host;
@@ -15,7 +16,7 @@ use nodes::node::Node;
 use traversal::order::Visit;
 use vocabulary::fault::HostFault;
 use vocabulary::frame_error::FrameError;
-use vocabulary::policy::Policy;
+use vocabulary::policy::{Pair, Policy};
 
 // What a list has to be judged by: the error of a frame, and none of a source, since each frame is judged with the sources
 // beneath its error.
@@ -39,6 +40,17 @@ impl Judged for Node {
 
     fn frame_error(self) -> Option<FrameError> {
         (!self.native).then_some(self.error)
+    }
+}
+
+// Accepts nothing, for who asks for the class alone.
+pub(crate) struct Never;
+
+impl Policy for Never {
+    ghost accepted = { λ _. never };
+
+    fn accepts(&self, _pair: Pair) -> bool {
+        false
     }
 }
 

@@ -1,28 +1,72 @@
 // Questions on reports. Store and host are lent to each call, as to the store's.
-ghost use Rattle.std.specs.Prelude.{◌≡◌, ◌≤◌, map, length, Some, Ok};
+ghost use Rattle.std.specs.Prelude.{◌≡◌, ◌≤◌, true, is_some, map, length, Some, Ok};
 ghost use Rattle.vocabulary.specs.Policy.{standard};
 ghost use Rattle.vocabulary.specs.declared.frame_error.FrameError.{FrameError};
 ghost use Rattle.vocabulary.specs.declared.policy.StandardPolicy.TheVariants.{CanRetry, CanRetryLenient};
 ghost use Rattle.host.specs.Findings.{findings_of};
+ghost use Rattle.trees.specs.Counting.{in_report};
 ghost use Rattle.trees.specs.Trees.{Tree};
+ghost use Rattle.frames.specs.Of.{reports_of};
 ghost use Rattle.nodes.specs.Flattening.{frame_list};
 ghost use Rattle.traversal.specs.Order.{visited};
 ghost use Rattle.store.specs.Store.{ledger_of};
-ghost use Rattle.readings.specs.Readings.{Cause, cause, class_of, report_pairs, verdict_of};
+ghost use Rattle.readings.specs.Readings.{Cause, cause, class_of, errors_of, first_not_live, report_pairs, verdict_of};
+ghost use Rattle.readings.specs.ByFrames.{listed_errors};
+ghost use Rattle.listed_readings.specs.Judged.{if_live, judged};
 ghost use Rattle.questions.specs.Answers.{CauseByLedger, GivenByLedger, report_answer};
 
-use crate::judging::judge;
+use crate::judging::{Never, judge};
 use crate::seen::{Seen, frame_seen};
+use arrayvec::ArrayVec;
 use classes::class::Class;
+use frames::store::Frames;
 use host::host::Host;
 use host::judge::Findings;
 use store::store::Store;
 use store::token::Exn;
 use traversal::order::{Visit, breadth_first};
 use traversal::survey::survey;
-use vocabulary::fault::StoreFault;
+use vocabulary::fault::{HostFault, StoreFault};
 use vocabulary::frame_error::FrameError;
 use vocabulary::policy::{Policy, StandardPolicy};
+
+// A report of so few frames is asked along a short order, since an order takes time by its room.
+const FEW: usize = 32;
+
+// What a report comes to under a policy, along an order of at most `N` frames.
+fn findings_along<H: Host, P: Policy, const N: usize>(
+    frames: &Frames,
+    host: &H,
+    policy: &P,
+    root: u16,
+) -> Result<Findings, HostFault>
+    requires live { is_some (reports_of frames.now root) ≡ true }
+    requires room { in_report (reports_of frames.now root) ≤ N }
+    requires small { N ≤ 1024 }
+    ensures { (t : Tree) → reports_of frames.now root ≡ Some t → result ≡ judged (H.Host.errors host.now) (P.Policy.accepted policy.now) (listed_errors (frame_list t)) }
+{
+    let mut order = ArrayVec::<Visit, N>::new();
+    breadth_first(frames, root, &mut order);
+    judge(host, policy, order.as_slice())
+}
+
+// The same along an order of as much room as is needed.
+#[tactic(auto, using(traversal::proofs::Walks::report_few))]
+fn findings_beneath<H: Host, P: Policy>(
+    frames: &Frames,
+    host: &H,
+    policy: &P,
+    root: u16,
+) -> Result<Findings, HostFault>
+    requires { is_some (reports_of frames.now root) ≡ true }
+    ensures { (t : Tree) → reports_of frames.now root ≡ Some t → result ≡ judged (H.Host.errors host.now) (P.Policy.accepted policy.now) (listed_errors (frame_list t)) }
+{
+    if frames.size(root) <= FEW {
+        findings_along::<H, P, FEW>(frames, host, policy, root)
+    } else {
+        findings_along::<H, P, 1024>(frames, host, policy, root)
+    }
+}
 
 // What a report comes to under a policy.
 fn findings<H: Host, P: Policy>(
@@ -34,8 +78,7 @@ fn findings<H: Host, P: Policy>(
     ensures { result ≡ report_answer store.now (H.Host.errors host.now) report.now (λ t. findings_of (P.Policy.accepted policy.now) (report_pairs (H.Host.errors host.now) t)) }
 {
     let root = store.root_of(report)?;
-    let order = breadth_first(store.frames(), root);
-    Ok(judge(host, policy, order.as_slice())?)
+    Ok(findings_beneath(store.frames(), host, policy, root)?)
 }
 
 // The least class among all errors of a report and the sources beneath them, or none.
@@ -47,7 +90,7 @@ pub fn dominant_class<H: Host>(
     ensures answer { result ≡ report_answer store.now (H.Host.errors host.now) report.now (class_of (H.Host.errors host.now)) }
     ensures reached { GivenByLedger store.now (H.Host.errors host.now) report.now (class_of (H.Host.errors host.now)) result }
 {
-    Ok(findings(store, host, &StandardPolicy::CanRetry, report)?.class)
+    Ok(findings(store, host, &Never, report)?.class)
 }
 
 // Whether the controller may try again after a report: no class in it is Cancelled, and the policy accepts one of its errors.
@@ -81,21 +124,53 @@ pub fn can_retry_lenient<H: Host>(store: &Store, host: &H, report: &Exn) -> Resu
 
 // The probable cause of a report whose frames stand in an order: from the last to the first, what is seen of each is gathered
 // for its parent. Counted, since an element of the array is read and another written at each turn.
-fn order_cause<H: Host>(host: &H, order: &[Visit]) -> FrameError
-    requires few { length order.now ≤ 1024 }
+fn order_cause<H: Host, const N: usize>(host: &H, order: &[Visit]) -> FrameError
+    requires few { length order.now ≤ N }
+    requires small { N ≤ 1024 }
     requires frames { ∥ ((t : Tree) × (map visited order.now ≡ frame_list t)) ∥₁ }
     ensures { (t : Tree) → map visited order.now ≡ frame_list t → result ≡ cause (H.Host.errors host.now) t }
 {
-    let mut gathered = [Seen::Nothing; 1024];
+    let mut gathered = [Seen::Nothing; N];
     for i in (1..order.len()).rev() {
         let visit = order[i];
         if let Some(parent) = visit.parent {
+            let parent = parent as usize;
             let seen = frame_seen(host, visit.error, gathered[i]);
             gathered[parent] = gathered[parent].with(seen);
         }
     }
     let root = order[0].error;
     frame_seen(host, root, gathered[0]).or(root)
+}
+
+// The probable cause of a report, along an order of at most `N` frames, or the first of its errors that is not live.
+fn cause_along<H: Host, const N: usize>(
+    frames: &Frames,
+    host: &H,
+    root: u16,
+) -> Result<FrameError, HostFault>
+    requires live { is_some (reports_of frames.now root) ≡ true }
+    requires room { in_report (reports_of frames.now root) ≤ N }
+    requires small { N ≤ 1024 }
+    ensures { (t : Tree) → reports_of frames.now root ≡ Some t → result ≡ if_live (first_not_live (H.Host.errors host.now) (errors_of (H.Host.errors host.now) t)) (cause (H.Host.errors host.now) t) }
+{
+    let mut order = ArrayVec::<Visit, N>::new();
+    breadth_first(frames, root, &mut order);
+    survey(host, order.as_slice())?;
+    Ok(order_cause::<H, N>(host, order.as_slice()))
+}
+
+// The same along an order of as much room as is needed.
+#[tactic(auto, using(traversal::proofs::Walks::report_few))]
+fn cause_beneath<H: Host>(frames: &Frames, host: &H, root: u16) -> Result<FrameError, HostFault>
+    requires { is_some (reports_of frames.now root) ≡ true }
+    ensures { (t : Tree) → reports_of frames.now root ≡ Some t → result ≡ if_live (first_not_live (H.Host.errors host.now) (errors_of (H.Host.errors host.now) t)) (cause (H.Host.errors host.now) t) }
+{
+    if frames.size(root) <= FEW {
+        cause_along::<H, FEW>(frames, host, root)
+    } else {
+        cause_along::<H, 1024>(frames, host, root)
+    }
 }
 
 // The probable cause of a report: the deepest error that is no marker and has every other such error above or beneath it;
@@ -111,7 +186,5 @@ pub fn probable_cause<H: Host>(
     ensures stands { (t : Tree) (e : FrameError) → (ledger_of store.now).reports report.now.root ≡ Some t → result ≡ Ok e → Cause (H.Host.errors host.now) t e }
 {
     let root = store.root_of(report)?;
-    let order = breadth_first(store.frames(), root);
-    survey(host, order.as_slice())?;
-    Ok(order_cause(host, order.as_slice()))
+    Ok(cause_beneath(store.frames(), host, root)?)
 }

@@ -9,6 +9,7 @@ ghost use Rattle.questions.specs.Noted.{meant, noted};
 use host::host::Host;
 use host::sources::Chain;
 use nodes::node::Note;
+use traversal::marker::is_marker;
 use vocabulary::frame_error::FrameError;
 
 // What is seen of nodes side by side, through those that are markers.
@@ -50,7 +51,7 @@ impl Seen {
         match note {
             Note::Single(cause) => Seen::Single(cause),
             Note::Several => Seen::Several,
-            Note::Clear | Note::Marker | Note::Line(_) => Seen::Nothing,
+            Note::Clear | Note::Planned(_) => Seen::Nothing,
         }
     }
 
@@ -64,13 +65,6 @@ impl Seen {
             Seen::Several => Note::Several,
         }
     }
-}
-
-// Whether an error is a marker.
-fn is_marker<H: Host>(host: &H, error: FrameError) -> bool
-    ensures { result ≡ marker_in (H.Host.errors host.now) error }
-{
-    host.kind(error.number()).is_ok_and(|kind| kind.is_marker())
 }
 
 // What is seen of a node, by what is seen of its children.

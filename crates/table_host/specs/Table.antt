@@ -62,3 +62,11 @@ table_span records = min (length records) 65536
 -- the record of a live error
 abbrev pub live_record : List Record → ℕ → ℕ → Option Record
 live_record records size e = cond (live records size e) (slice_get records e) None
+
+abbrev pub kind_of_record : Option Record → Option Kind
+kind_of_record None = None
+kind_of_record (Some r) = record_kind r
+
+-- the kind of a live error
+abbrev pub live_kind : List Record → ℕ → ℕ → Option Kind
+live_kind records size e = kind_of_record (live_record records size e)

@@ -12,7 +12,7 @@ use Rattle.vocabulary.specs.Kind.{sourceless}
 use Rattle.vocabulary.specs.declared.kind.Kind.{Kind}
 use Rattle.vocabulary.specs.declared.fault.HostFault.TheVariants.{NotLive, TextTooLong}
 use Rattle.model.specs.Host.{Error, Lawful, Live, answer, text_answer, text_filled}
-use Rattle.table_host.specs.Table.{live_record, record_kind, kind_fits, record_fits, source_live, record_live, live_within, live, record_error, record_told, table_errors, table_span}
+use Rattle.table_host.specs.Table.{kind_of_record, live_kind, live_record, record_kind, kind_fits, record_fits, source_live, record_live, live_within, live, record_error, record_told, table_errors, table_span}
 use Rattle.table_host.specs.declared.record.Record.{Record}
 
 blank : Record
@@ -63,21 +63,37 @@ module _ (records : List Record) (size : ℕ) where
   pub live-read : (e : ℕ) → live records size e ≡ true → e < length records
   live-read e t = ⊎_elim (λ h. h) (λ h. let f : false ≡ true = ap (record_live size (live records size) e) (sym (slice_get_past records e h)) ∙ sym (live_is e) ∙ t in absurd cc) (cases_lt e (length records))
 
-  -- what a pass has come to: its marks, the records that are left of those that may be live, and how many it has read
-  pub record Pass (marks : List Bool) (rest : List Record) (left e : ℕ) : Type 0 where
-    pub count : length marks ≡ e
-    pub marks_are : (d : ℕ) → d < e → slice_index_or marks d false ≡ live records size d
+  -- a live record has a kind, and one that is not live has none
+  pub marked : (e : ℕ) → is_some (live_kind records size e) ≡ live records size e
+  marked e = go (live records size e) (slice_get records e) refl refl
+    where
+      named : (r : Record) → live records size e ≡ true → slice_get records e ≡ Some r → is_some (record_kind r) ≡ true
+      named r t n = some (record_kind r) (and_parts _ _ (facts e r t n).fits).0
+        where
+          some : (k : Option Kind) → kind_fits e k r.source ≡ true → is_some k ≡ true
+          some None q = absurd cc
+          some (Some k) q = refl
+
+      go : (b : Bool) (o : Option Record) → live records size e ≡ b → slice_get records e ≡ o → is_some (kind_of_record (cond b o None)) ≡ b
+      go true (Some r) t n = named r t n
+      go true None t n = let f : false ≡ true = ap (record_live size (live records size) e) (sym n) ∙ sym (live_is e) ∙ t in absurd cc
+      go false o t n = refl
+
+  -- what a pass has come to: its kinds, the records that are left of those that may be live, and how many it has read
+  pub record Pass (kinds : List (Option Kind)) (rest : List Record) (left e : ℕ) : Type 0 where
+    pub count : length kinds ≡ e
+    pub kinds_are : (d : ℕ) → d < e → slice_index_or kinds d None ≡ live_kind records size d
     pub rest_is : rest ≡ drop e records
     pub left_is : left + e ≡ 65536
 
-  -- one record more, judged by the marks of those before it
-  pub pass_more : {marks seen marks' : List Bool} {rest rest' : List Record} {left left' e e' number : ℕ} {x : Record} {b : Bool} → Pass marks rest left e
-      → rest ≡ x ∷ rest' → left' + 1 ≡ left → number ≡ e → e' ≡ e + 1 → seen ≡ marks
-      → b ≡ (record_fits size number x && source_live (λ s. get_or seen s false) x.source) → marks' ≡ marks ++ b ∷ [] → Pass marks' rest' left' e'
-  pass_more {marks} {seen} {marks'} {rest} {rest'} {left} {left'} {e} {e'} {number} {x} {b} m r l at next same q p =
-      subst (λ (k : ℕ). Pass marks' rest' left' k) (sym next) (record {
+  -- one record more, judged by the kinds of those before it
+  pub pass_more : {kinds seen kinds' : List (Option Kind)} {rest rest' : List Record} {left left' e e' number : ℕ} {x : Record} {b : Bool} → Pass kinds rest left e
+      → rest ≡ x ∷ rest' → left' + 1 ≡ left → number ≡ e → e' ≡ e + 1 → seen ≡ kinds
+      → b ≡ (record_fits size number x && source_live (λ s. is_some (get_or seen s None)) x.source) → kinds' ≡ kinds ++ cond b (record_kind x) None ∷ [] → Pass kinds' rest' left' e'
+  pass_more {kinds} {seen} {kinds'} {rest} {rest'} {left} {left'} {e} {e'} {number} {x} {b} m r l at next same q p =
+      subst (λ (k : ℕ). Pass kinds' rest' left' k) (sym next) (record {
         count = ap length p ∙ simp length-append (let n = m.count in omega arith);
-        marks_are = below_more _ e old new;
+        kinds_are = below_more _ e old new;
         rest_is = let n = drop_more records e x within in cc;
         left_is = let n = m.left_is in omega arith;
       })
@@ -88,30 +104,40 @@ module _ (records : List Record) (size : ℕ) where
       read : slice_get records e ≡ Some x
       read = let n = drop_more records e x within in let s = slice_get-get_or records e x within in cc
 
-      old : (k : ℕ) → k < e → slice_index_or marks' k false ≡ live records size k
-      old k l = let n = m.count in ap (λ (xs : List Bool). get_or xs k false) p ∙ get_or_append_left marks (b ∷ []) false k (omega arith) ∙ m.marks_are k l
+      old : (k : ℕ) → k < e → slice_index_or kinds' k None ≡ live_kind records size k
+      old k l = let n = m.count in ap (λ (xs : List (Option Kind)). get_or xs k None) p ∙ get_or_append_left kinds (cond b (record_kind x) None ∷ []) None k (omega arith) ∙ m.kinds_are k l
 
       judged : b ≡ live records size e
       judged =
           let s : e < 65536 = let n = m.left_is in omega arith in
           q
-          ∙ ap (λ (k : ℕ). (record_fits size k x && source_live (λ s. get_or seen s false) x.source)) at
-          ∙ ap (λ (xs : List Bool). (record_fits size e x && source_live (λ s. get_or xs s false) x.source)) same
-          ∙ sym (and-true (record_fits size e x && source_live (λ s. get_or marks s false) x.source))
-          ∙ ap (λ (t : Bool). ((record_fits size e x && source_live (λ s. get_or marks s false) x.source) && t)) (sym (lt-ltb e 65536 s))
-          ∙ same_below size e (λ s. get_or marks s false) (live records size) (Some x) m.marks_are
+          ∙ ap (λ (k : ℕ). (record_fits size k x && source_live (λ s. is_some (get_or seen s None)) x.source)) at
+          ∙ ap (λ (xs : List (Option Kind)). (record_fits size e x && source_live (λ s. is_some (get_or xs s None)) x.source)) same
+          ∙ sym (and-true (record_fits size e x && source_live (λ s. is_some (get_or kinds s None)) x.source))
+          ∙ ap (λ (t : Bool). ((record_fits size e x && source_live (λ s. is_some (get_or kinds s None)) x.source) && t)) (sym (lt-ltb e 65536 s))
+          ∙ same_below size e (λ s. is_some (get_or kinds s None)) (live records size) (Some x) (λ d h. ap is_some (m.kinds_are d h) ∙ marked d)
           ∙ ap (record_live size (live records size) e) (sym read)
           ∙ sym (live_is e)
 
-      new : get_or marks' e false ≡ live records size e
-      new = ap (λ (xs : List Bool). get_or xs e false) p ∙ get_or_at marks b [] false e m.count ∙ judged
+      told_kind : cond b (record_kind x) None ≡ live_kind records size e
+      told_kind =
+          ap (λ (t : Bool). cond t (record_kind x) None) judged
+          ∙ inside (live records size e)
+          ∙ ap (λ (o : Option Record). kind_of_record (cond (live records size e) o None)) (sym read)
+        where
+          inside : (t : Bool) → cond t (record_kind x) None ≡ kind_of_record (cond t (Some x) None)
+          inside true = refl
+          inside false = refl
+
+      new : get_or kinds' e None ≡ live_kind records size e
+      new = ap (λ (xs : List (Option Kind)). get_or xs e None) p ∙ get_or_at kinds (cond b (record_kind x) None) [] None e m.count ∙ told_kind
 
   -- past the pass there is no live record
-  pub pass_ends : {marks : List Bool} {rest : List Record} {left count : ℕ} → Pass marks rest left count → (0 < left → length rest ≡ 0) → (e : ℕ) → slice_index_or marks e false ≡ live records size e
-  pass_ends {marks} {rest} {left} {count} m done e = ⊎_elim (m.marks_are e) past (cases_lt e count)
+  pub pass_ends : {kinds : List (Option Kind)} {rest : List Record} {left count : ℕ} → Pass kinds rest left count → (0 < left → length rest ≡ 0) → (e : ℕ) → slice_index_or kinds e None ≡ live_kind records size e
+  pass_ends {kinds} {rest} {left} {count} m done e = ⊎_elim (m.kinds_are e) past (cases_lt e count)
     where
-      absent : count ≤ e → (b : Bool) → live records size e ≡ b → false ≡ live records size e
-      absent h false q = sym q
+      absent : count ≤ e → (b : Bool) → live records size e ≡ b → None ≡ kind_of_record (cond b (slice_get records e) None)
+      absent h false q = refl
       absent h true q =
           let r = live-read e q in
           let f = (facts e (slice_index_or records e blank) q (slice_get-get_or records e blank r)).small in
@@ -119,8 +145,21 @@ module _ (records : List Record) (size : ℕ) where
           let k = sym (ap (λ (xs : List Record). length xs) m.rest_is) ∙ done n in
           absurd (omega (arith, length-drop count records))
 
-      past : count ≤ e → slice_index_or marks e false ≡ live records size e
-      past h = get_or_past marks e false (let n = m.count in omega arith) ∙ absent h (live records size e) refl
+      past : count ≤ e → slice_index_or kinds e None ≡ live_kind records size e
+      past h = get_or_past kinds e None (let n = m.count in omega arith) ∙ absent h (live records size e) refl
+
+-- the kind of a live record is the one that is told
+pub kind_answered : (records : List Record) (bytes : List ℕ) (e : ℕ) → ok_or (live_kind records (length bytes) e) (NotLive e) ≡ answer (table_errors records bytes e) e (λ m. m.kind)
+kind_answered records bytes e = go (live records (length bytes) e) (slice_get records e)
+  where
+    told_so : (r : Record) (k : Option Kind) → ok_or k (NotLive e) ≡ answer (option_map (record_error bytes r) k) e (λ m. m.kind)
+    told_so r None = refl
+    told_so r (Some k) = refl
+
+    go : (b : Bool) (o : Option Record) → ok_or (kind_of_record (cond b o None)) (NotLive e) ≡ answer (cond b (record_told bytes o) None) e (λ m. m.kind)
+    go true None = refl
+    go true (Some r) = told_so r (record_kind r)
+    go false o = refl
 
 -- what is told of a live record
 record Told (records : List Record) (bytes : List ℕ) (e : ℕ) (r : Record) : Type 0 where
@@ -161,9 +200,6 @@ module _ (records : List Record) (bytes : List ℕ) (e : ℕ) (r : Record) (q : 
       go true (Some x) t n p = told records bytes e r t (n ∙ (let s : Some x ≡ Some r = cc in s))
       go true None t n p = absurd cc
       go false o t n p = absurd cc
-
-  pub kind_told : ok_or (record_kind r) (NotLive e) ≡ answer (table_errors records bytes e) e (λ m. m.kind)
-  kind_told = ap (λ (k : Option Kind). ok_or k (NotLive e)) it.named ∙ sym (ap (λ o. answer o e (λ m. m.kind)) it.is)
 
   pub source_told : Ok r.source ≡ answer (table_errors records bytes e) e (λ m. m.source)
   source_told = sym (ap (λ o. answer o e (λ m. m.source)) it.is)

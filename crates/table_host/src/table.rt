@@ -1,5 +1,5 @@
-ghost use Rattle.std.specs.Prelude.{◌≡◌, ℕ, Bool, false, ◌&&◌, length, IfOk, Ok, Err, vec_len, slice_index_or, ok_or};
-ghost use Rattle.table_host.specs.Table.{live as live_in, live_record, record_fits, record_kind, source_live, table_errors, table_span};
+ghost use Rattle.std.specs.Prelude.{◌≡◌, ℕ, Bool, cond, ◌&&◌, is_some, length, IfOk, None, Ok, Err, vec_len, slice_index_or, ok_or};
+ghost use Rattle.table_host.specs.Table.{live as live_in, live_kind, live_record, record_fits, record_kind, source_live, table_errors, table_span};
 ghost use Rattle.table_host.specs.TableLaws.{table_lawful};
 ghost use Rattle.vocabulary.specs.declared.fault.HostFault.TheVariants.{NotLive};
 ghost use Rattle.vocabulary.specs.declared.fault.LayerFault.TheVariants.{Full};
@@ -13,13 +13,15 @@ use vocabulary::kind::Kind;
 
 // The errors of the caller's records, whose texts lie in the caller's bytes; both are moved in. A record is live if it
 // keeps the rules of a host, its text lies in the bytes and its source, if any, is live; which are is decided once, when
-// the table is made. The marks stand beside the records, which go back to the caller as the list that came.
+// the table is made. The kinds of those stand beside the records, which go back to the caller as the list that came.
 #[derive(Drop)]
 pub struct TableHost {
     records: Vec<Record>,
     bytes: Vec<u8>,
-    live: Vec<bool>,
-    ghost decided: { (e : ℕ) → slice_index_or live.items e false ≡ live_in records.items (length bytes.items) e },
+    // none where a record is not live
+    kinds: Vec<Option<Kind>>,
+    ghost decided: { (e : ℕ) → slice_index_or kinds.items e None ≡ live_kind records.items (length bytes.items) e },
+    ghost marked: { (e : ℕ) → is_some (slice_index_or kinds.items e None) ≡ live_in records.items (length bytes.items) e },
 }
 
 impl Record {
@@ -45,30 +47,48 @@ impl Record {
     }
 }
 
-// Whether the error of a number is marked as live.
-fn is_marked(live: &[bool], error: u16) -> bool
-    ensures { result ≡ slice_index_or live.now error false }
+// The kind that stands beside the record of a number, if it is live.
+fn kind_beside(kinds: &[Option<Kind>], error: u16) -> Option<Kind>
+    ensures { result ≡ slice_index_or kinds.now error None }
 {
-    live.get(usize::from(error)).copied().unwrap_or(false)
+    kinds.get(usize::from(error)).copied().unwrap_or(None)
 }
 
-// Whether the record of number `error` is live, where those before it are marked.
-fn lives(live: &[bool], record: &Record, error: u16, size: usize) -> bool
-    ensures { result ≡ record_fits size error «record».now && source_live (λ d. slice_index_or live.now d false) «record».now.source }
+// Whether the record of number `error` is live, where the kinds of those before it are known.
+fn lives(kinds: &[Option<Kind>], record: &Record, error: u16, size: usize) -> bool
+    ensures { result ≡ record_fits size error «record».now && source_live (λ d. is_some (slice_index_or kinds.now d None)) «record».now.source }
 {
-    record.fits(error, size) && record.source.is_none_or(|source| is_marked(live, source))
+    record.fits(error, size)
+        && record
+            .source
+            .is_none_or(|source| kind_beside(kinds, source).is_some())
+}
+
+// The kind of the record of number `error`, if it is live.
+fn kind_if_live(kinds: &[Option<Kind>], record: &Record, error: u16, size: usize) -> Option<Kind>
+    ensures { result ≡ cond (record_fits size error «record».now && source_live (λ d. is_some (slice_index_or kinds.now d None)) «record».now.source) (record_kind «record».now) None }
+{
+    if lives(kinds, record, error, size) {
+        record.named_kind()
+    } else {
+        None
+    }
 }
 
 // One pass over the records, from the first to the last that can be live.
-fn mark_live(heap: Global, records: &[Record], size: usize) -> Result<Vec<bool>, AllocError>
-    ensures { IfOk result (λ v. (e : ℕ) → slice_index_or v.items e false ≡ live_in records.now size e) }
+fn live_kinds(
+    heap: Global,
+    records: &[Record],
+    size: usize,
+) -> Result<Vec<Option<Kind>>, AllocError>
+    ensures { IfOk result (λ v. (e : ℕ) → slice_index_or v.items e None ≡ live_kind records.now size e) }
 {
-    let mut live = Vec::new(heap);
+    let mut kinds = Vec::new(heap);
     for (error, record) in records.iter().take(65536).enumerate() {
-        let record_lives = lives(&live, record, error as u16, size);
-        live.push(record_lives)?;
+        let kind = kind_if_live(&kinds, record, error as u16, size);
+        kinds.push(kind)?;
     }
-    Ok(live)
+    Ok(kinds)
 }
 
 impl TableHost {
@@ -81,7 +101,7 @@ impl TableHost {
         ensures { elim result [ Ok t ↦ (t.records ≡ records) × (t.bytes ≡ bytes) | Err back ↦ back.value ≡ (records, bytes) ] }
     {
         // both ways move records and bytes, so no method of `Result` serves
-        let Ok(live) = mark_live(heap, &records, bytes.len()) else {
+        let Ok(kinds) = live_kinds(heap, &records, bytes.len()) else {
             return Err(AllocFailed {
                 value: (records, bytes),
             });
@@ -89,7 +109,7 @@ impl TableHost {
         Ok(TableHost {
             records,
             bytes,
-            live,
+            kinds,
         })
     }
 
@@ -107,7 +127,7 @@ impl TableHost {
         self.records
             .get(usize::from(error))
             .copied()
-            .filter(|_| is_marked(&self.live, error))
+            .filter(|_| kind_beside(&self.kinds, error).is_some())
             .ok_or(HostFault::NotLive(error))
     }
 }
@@ -119,10 +139,9 @@ impl Host for TableHost {
 
     ghost lawful = { λ h. table_lawful h.records.items h.bytes.items };
 
-    #[tactic(auto, using(crate::specs::TableLaws::kind_told))]
+    #[tactic(auto, using(crate::specs::TableLaws::kind_answered))]
     fn kind(&self, error: u16) -> Result<Kind, HostFault> {
-        let record = self.record(error)?;
-        record.named_kind().ok_or(HostFault::NotLive(error))
+        kind_beside(&self.kinds, error).ok_or(HostFault::NotLive(error))
     }
 
     fn source(&self, error: u16) -> Result<Option<u16>, HostFault> {

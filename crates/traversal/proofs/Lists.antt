@@ -1,8 +1,7 @@
 -- The nodes that are appended beneath one.
 use Rattle.std.proofs.lemmas.Grind.{common_steps}
-use Rattle.std.proofs.Common.{◌≡◌, ℕ, ◌+◌, ◌<◌, ◌≤◌, Bool, true, false, not, eqb, List, [], ◌∷◌, ◌++◌, map, length, get_or, drop, set, Some, None, Option, sym, refl, ap, ◌∙◌, subst, ap₂, ⊎_elim, append_assoc, arith}
+use Rattle.std.proofs.Common.{◌≡◌, ℕ, ◌+◌, ◌<◌, ◌≤◌, true, false, List, [], ◌∷◌, ◌++◌, map, length, get_or, drop, set, Some, Option, sym, refl, ap, ◌∙◌, subst, ap₂, ⊎_elim, append_assoc, arith}
 use Rattle.std.proofs.lemmas.List.{append-nil, length-append, length-map, map-append, drop_more, get_or-map}
-use Rattle.std.specs.Option.{option_eq}
 use Rattle.std.proofs.lemmas.Bool.{cases_lt, eq-eqb, true≢false}
 use Rattle.trees.specs.Trees.{Forest, empty, tree}
 use Rattle.nodes.specs.declared.node.Node.{Node}
@@ -29,15 +28,6 @@ source_some before start i p o r d q e room =
 pub forest-length : (i o : ℕ) (c : Forest) → length (from_forest i o c) ≡ trees c
 forest-length i o empty = refl
 forest-length i o (tree e p c r) = let h = forest-length i o r in omega arith
-
--- what a test of a visit's parent says
-pub parented : (o : ℕ) (p : Option ℕ) (b : Bool) → b ≡ not (option_eq eqb p (Some o)) → is_parent o p ≡ not b
-parented o None b q = sym (ap not q)
-parented o (Some i) b q = turn (eqb i o) q
-  where
-    turn : (x : Bool) → b ≡ not x → x ≡ not b
-    turn true q = sym (ap not q)
-    turn false q = sym (ap not q)
 
 -- the next of the order is what stands there
 pub record Reads (order : List Visit) (at : ℕ) (x : Item FrameContent) : Type 0 where
@@ -90,11 +80,11 @@ module _ (order : List Visit) where
         pub below : stop < length before
         pub listing : Listing (drop (at + 1) ordered) before (set now stop (listed (record { parent = Some i; value = frame v.error v.place }))) i o start (stop + 1) c
 
-      pub listing_more : at < length order → false ≡ not (option_eq eqb (get_or order at unvisited).parent (Some o)) → More (get_or order at unvisited)
+      pub listing_more : at < length order → is_parent o (get_or order at unvisited).parent ≡ true → More (get_or order at unvisited)
       listing_more lt tested = go t.rest refl
         where
           child : is_parent o (get_or order at unvisited).parent ≡ true
-          child = parented o (get_or order at unvisited).parent false tested
+          child = tested
 
           v : Visit
           v = get_or order at unvisited
@@ -160,8 +150,8 @@ module _ (order : List Visit) where
           let all : t.done ≡ from_forest i o c = sym (t.is ∙ ap (λ (f : Forest). t.done ++ from_forest i o f) (ended other) ∙ append-nil t.done) in
           subst (λ (y : List Wait). Put before now start stop (map wait_node y)) all t.put
 
-      pub listing_stop : true ≡ not (option_eq eqb (get_or order at unvisited).parent (Some o)) → Put before now start stop (map wait_node (from_forest i o c))
-      listing_stop tested = all_listed (λ lt. parented o (get_or order at unvisited).parent true tested)
+      pub listing_stop : is_parent o (get_or order at unvisited).parent ≡ false → Put before now start stop (map wait_node (from_forest i o c))
+      listing_stop tested = all_listed (λ lt. tested)
 
       pub listing_all : length order ≤ at → Put before now start stop (map wait_node (from_forest i o c))
       listing_all le = all_listed (λ lt. absurd (omega arith))

@@ -35,22 +35,22 @@ held_rest fs none s h = h
 held_rest fs (node i e p k r) s h = held_rest fs r s h.3
 
 -- what is known of the frame that comes next
-pub record Ahead (fs : List Frame) (stop c : ℕ) : Type 0 where
+pub record Ahead (most stop c : ℕ) : Type 0 where
   pub below : c < 1024
-  pub room : stop < 1024
+  pub room : stop < most
 
-pub ahead_prop : (fs : List Frame) (stop c : ℕ) → IsProp (Ahead fs stop c)
-ahead_prop fs stop c = hlevel le_prop
+pub ahead_prop : (most stop c : ℕ) → IsProp (Ahead most stop c)
+ahead_prop most stop c = hlevel le_prop
 
-module _ (fs : List Frame) (first : Option ℕ) (n : ℕ) (kids : Numbered) (before : List Visit) (o : Room fs first (length before) kids) where
+module _ (fs : List Frame) (first : Option ℕ) (n : ℕ) (kids : Numbered) (before : List Visit) (most : ℕ) (o : Room fs first (length before) most kids) where
   pub trail_none : Trail before before first n kids
   trail_none = record { done = none; rest = kids; is = refl; next = sym o.begins; list = sym (append-nil before) }
 
   module _ (now : List Visit) (at : Option ℕ) (t : Trail before now at n kids) where
-    pub ahead : (c : ℕ) → at ≡ Some c → Ahead fs (length now) c
+    pub ahead : (c : ℕ) → at ≡ Some c → Ahead most (length now) c
     ahead c a = go t.rest t.is t.next
       where
-        go : (rest : Numbered) → kids ≡ t.done beside rest → at ≡ head_of rest → Ahead fs (length now) c
+        go : (rest : Numbered) → kids ≡ t.done beside rest → at ≡ head_of rest → Ahead most (length now) c
         go none i x = absurd cc
         go (node d e p k r) i x =
             let q : d ≡ c = cc in

@@ -138,8 +138,8 @@ module _ (fs : List Frame) (total : ℕ) (w : Waiting) (s : Start fs total w) wh
       pub frame_below : (get_or now i unvisited).frame < 1024
       frame_below = subst (λ (x : Visit). x.frame < 1024) (sym reads) lies.0.below
 
-      pub kids_room : (first : Option ℕ) → first ≡ (get_or fs (get_or now i unvisited).frame blank).first → Room fs first (length now) v.kids
-      kids_room first e = record {
+      pub kids_room : (most : ℕ) → total ≤ most → (first : Option ℕ) → first ≡ (get_or fs (get_or now i unvisited).frame blank).first → Room fs first (length now) most v.kids
+      kids_room most fit first e = record {
         held = lies.0.held;
         begins = lies.0.first ∙ sym (ap (λ (x : Visit). (get_or fs x.frame blank).first) reads) ∙ sym e;
         room = let a = sums in let b = load-length q in let c = width-size v.kids in let d = ends in let e = t.falls in let f = s.fits in omega arith;
@@ -229,6 +229,10 @@ pub ordered_prop : (o : Option Tree) (order : List Visit) → IsProp (Ordered o 
 ordered_prop None order = hlevel
 ordered_prop (Some t) order = hlevel (item_set, is_set, ℕ_set)
 
+-- a report has no more frames than a store
+pub report_few : (s : Frames) (x : ℕ) → is_some (reports_of s x) ≡ true → in_report (reports_of s x) ≤ 1024
+report_few s x live = ∥∥₁_elim (found s x live) le_prop (λ a. let z = sized s x (in_report (reports_of s x)) a refl in let f = a.placed.fits in omega arith)
+
 -- while some of a report's frames wait
 module _ (s : Frames) (x : ℕ) (live : is_some (reports_of s x) ≡ true) (now : List Visit) (i n : ℕ)
     (t : (a : At s x) → Walk (frames_of s) now (size a.kids + 1) i (root x a.tree a.kids)) (all : n ≡ in_report (reports_of s x)) where
@@ -257,18 +261,20 @@ module _ (s : Frames) (x : ℕ) (live : is_some (reports_of s x) ≡ true) (now 
       first_is : f.first ≡ (get_or (frames_of s) (get_or now i unvisited).frame blank).first
       first_is = grind (arith, nat_tests)
 
-      pub turn_room : ∥ ((kids : Numbered) × Room (frames_of s) f.first (length now) kids) ∥₁
-      turn_room = ∥∥₁_map (found s x live) (λ a.
+      pub turn_room : (most : ℕ) → n ≤ most → ∥ ((kids : Numbered) × Room (frames_of s) f.first (length now) most kids) ∥₁
+      turn_room most fit = ∥∥₁_map (found s x live) (λ a.
           let b = start _ x a.tree a.kids a.placed in
           let l = waits a in
-          ((v _ _ _ b now i (t a) l).kids, kids_room _ _ _ b now i (t a) l f.first first_is))
+          let z = sized s x n a all in
+          ((v _ _ _ b now i (t a) l).kids, kids_room _ _ _ b now i (t a) l most (omega arith) f.first first_is))
 
-      pub turn_more : (after : List Visit) → ((kids : Numbered) → Room (frames_of s) f.first (length now) kids → after ≡ now ++ visits i kids)
+      pub turn_more : (most : ℕ) → n ≤ most → (after : List Visit) → ((kids : Numbered) → Room (frames_of s) f.first (length now) most kids → after ≡ now ++ visits i kids)
           → (a : At s x) → Walk (frames_of s) after (size a.kids + 1) (i + 1) (root x a.tree a.kids)
-      turn_more after more a =
+      turn_more most fit after more a =
           let b = start _ x a.tree a.kids a.placed in
           let l = waits a in
-          walk_more _ _ _ b now i (t a) l after (more _ (kids_room _ _ _ b now i (t a) l f.first first_is))
+          let z = sized s x n a all in
+          walk_more _ _ _ b now i (t a) l after (more _ (kids_room _ _ _ b now i (t a) l most (omega arith) f.first first_is))
 
   pub all_ordered : n ≤ i → Ordered (reports_of s x) now
   all_ordered le = ∥∥₁_elim (found s x live) (ordered_prop _ _) (λ a.

@@ -34,9 +34,9 @@ abbrev pub visits : ℕ → Numbered → List Visit
 visits n none = []
 visits n (node i e p k r) = record { frame = i; error = e; place = p; parent = Some n } ∷ visits n r
 
--- frames are linked from the first, and there is room for them
-pub record Room (fs : List Frame) (first : Option ℕ) (start : ℕ) (kids : Numbered) : Type 0 where
+-- frames are linked from the first, and there is room for them among `most`
+pub record Room (fs : List Frame) (first : Option ℕ) (start most : ℕ) (kids : Numbered) : Type 0 where
   pub held : Held fs Linked kids
   pub begins : head_of kids ≡ first
-  pub room : start + width kids ≤ 1024
+  pub room : start + width kids ≤ most
   pub long : length fs ≡ 1024

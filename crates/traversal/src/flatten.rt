@@ -1,6 +1,7 @@
 // The nodes of a report, written breadth-first into a list.
 ghost use Rattle.std.specs.Prelude.{◌≡◌, ◌+◌, ◌<◌, ◌≤◌, ◌++◌, map, length, drop, slice_index_or};
 ghost use Rattle.trees.specs.Trees.{Forest, Tree};
+ghost use Rattle.nodes.specs.Breadth.{is_parent};
 ghost use Rattle.nodes.specs.Flattening.{flattening, listed};
 ghost use Rattle.nodes.specs.Nodes.{frame};
 ghost use Rattle.traversal.specs.Order.{visited};
@@ -27,6 +28,13 @@ pub struct Progress {
 }
 
 impl Visit {
+    // Whether the frame `o` of the order is its parent.
+    fn is_beneath(self, o: usize) -> bool
+        ensures { result ≡ is_parent o self.parent }
+    {
+        self.parent.is_some_and(|parent| usize::from(parent) == o)
+    }
+
     // The node of the frame.
     fn node(self, parent: Option<usize>) -> Node
         ensures { result ≡ listed (record { parent = parent; value = frame self.error self.place }) }
@@ -69,7 +77,7 @@ fn append_frames(order: &[Visit], o: usize, i: usize, list: &mut [Node], start: 
         → Put list.old list.new start result (map wait_node (from_forest i o c)) }
 {
     for (k, visit) in order.iter().enumerate() {
-        if visit.parent != Some(o) {
+        if !visit.is_beneath(o) {
             return start + k;
         }
         list[start + k] = visit.node(Some(i));

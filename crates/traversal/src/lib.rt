@@ -2,6 +2,7 @@
 #![tactic(auto)]
 
 pub mod flatten;
+pub mod marker;
 pub mod order;
 pub mod report;
 pub mod survey;

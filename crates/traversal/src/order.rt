@@ -1,6 +1,7 @@
 // The frames of a report in breadth-first order.
-ghost use Rattle.std.specs.Prelude.{◌≡◌, ◌<◌, ◌++◌, true, is_some};
+ghost use Rattle.std.specs.Prelude.{◌≡◌, ◌<◌, ◌≤◌, ◌++◌, [], true, is_some};
 ghost use Rattle.arrayvec.specs.ArrayVec.{array_vec_len};
+ghost use Rattle.trees.specs.Counting.{in_report};
 ghost use Rattle.trees.specs.Numbered.{Numbered};
 ghost use Rattle.frames.specs.Of.{frames_of, reports_of};
 ghost use Rattle.traversal.specs.Order.{Ordered, Room, visit_at, visits};
@@ -18,7 +19,7 @@ pub struct Visit {
     pub error: FrameError,
     pub place: u32,
     // where its parent stands in the order, none for the root
-    pub parent: Option<usize>,
+    pub parent: Option<u16>,
 }
 
 // What an order has where nothing was written yet. By hand, since no error is the default one.
@@ -38,7 +39,7 @@ impl Default for Visit {
 // The frames of a report, as they were come to.
 pub type Order = ArrayVec<Visit, 1024>;
 
-fn visit_of(frames: &Frames, frame: u16, parent: Option<usize>) -> Visit
+fn visit_of(frames: &Frames, frame: u16, parent: Option<u16>) -> Visit
     requires { frame < 1024 }
     ensures { result ≡ visit_at (frames_of frames.now) frame parent }
 {
@@ -53,9 +54,14 @@ fn visit_of(frames: &Frames, frame: u16, parent: Option<usize>) -> Visit
 
 // Appends the frames that are linked from `first`. No iterator: that of the library over links (`iter::successors`) has no
 // end that a `for` could see, and here the proof knows it.
-fn append_children(frames: &Frames, first: Option<u16>, parent: usize, order: &mut Order)
-    requires { ∥ ((kids : Numbered) × Room (frames_of frames.now) first (array_vec_len order.old) kids) ∥₁ }
-    ensures { (kids : Numbered) → Room (frames_of frames.now) first (array_vec_len order.old) kids → order.new.items ≡ order.old.items ++ visits parent kids }
+fn append_children<const N: usize>(
+    frames: &Frames,
+    first: Option<u16>,
+    parent: u16,
+    order: &mut ArrayVec<Visit, N>,
+)
+    requires { ∥ ((kids : Numbered) × Room (frames_of frames.now) first (array_vec_len order.old) N kids) ∥₁ }
+    ensures { (kids : Numbered) → Room (frames_of frames.now) first (array_vec_len order.old) N kids → order.new.items ≡ order.old.items ++ visits parent kids }
 {
     let mut at = first;
     while let Some(frame) = at {
@@ -64,16 +70,18 @@ fn append_children(frames: &Frames, first: Option<u16>, parent: usize, order: &m
     }
 }
 
-// The frames of a report, breadth-first. The loop counts, since the order that it goes through grows meanwhile.
-pub fn breadth_first(frames: &Frames, root: u16) -> Order
-    requires { is_some (reports_of frames.now root) ≡ true }
-    ensures { Ordered (reports_of frames.now root) result.items }
+// Fills an empty order with the frames of a report, breadth-first, of which it can hold as many. It is lent, since a returned one would be copied. The loop
+// counts, since the order that it goes through grows meanwhile.
+pub fn breadth_first<const N: usize>(frames: &Frames, root: u16, order: &mut ArrayVec<Visit, N>)
+    requires live { is_some (reports_of frames.now root) ≡ true }
+    requires empty { order.old.items ≡ [] }
+    requires room { in_report (reports_of frames.now root) ≤ N }
+    requires small { N ≤ 1024 }
+    ensures { Ordered (reports_of frames.now root) order.new.items }
 {
-    let mut order = Order::new();
     order.push(visit_of(frames, root, None));
     for i in 0..frames.size(root) {
         let first = frames.frame(order[i].frame).first;
-        append_children(frames, first, i, &mut order);
+        append_children(frames, first, i as u16, order);
     }
-    order
 }

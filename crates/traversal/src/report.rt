@@ -5,7 +5,7 @@ ghost use Rattle.frames.specs.Of.{reports_of};
 ghost use Rattle.traversal.specs.Report.{ListedInto};
 
 use crate::flatten::flatten;
-use crate::order::breadth_first;
+use crate::order::{Order, breadth_first};
 use crate::survey::survey;
 use frames::store::Frames;
 use host::host::Host;
@@ -22,7 +22,8 @@ pub fn flatten_report<H: Host>(
     requires { is_some (reports_of frames.now root) ≡ true }
     ensures { (t : Tree) → reports_of frames.now root ≡ Some t → ListedInto (H.Host.errors host.now) t list.old list.new result }
 {
-    let order = breadth_first(frames, root);
+    let mut order = Order::new();
+    breadth_first(frames, root, &mut order);
     let order = order.as_slice();
     let total = survey(host, order)?;
     if list.len() < total {

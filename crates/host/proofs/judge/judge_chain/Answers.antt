@@ -1,28 +1,37 @@
-use Rattle.std.proofs.Common.{◌≡◌, Ok, None, false, ap, ◌∙◌, rules, tests, List}
-use Rattle.std.proofs.lemmas.Iterator.{YieldsList-from_map}
-use Rattle.std.proofs.lemmas.Iterator.Consumers.{YieldsList-at, YieldsList-from_first, fold_from_yields_List}
+use Rattle.std.proofs.Common.{◌≡◌, ℕ, Ok, None, false, List, ap, sym, ◌∙◌, rules}
 use Rattle.std.specs.List.{fold}
 use Rattle.vocabulary.specs.declared.policy.Pair.{Pair}
-use Rattle.model.specs.Challenge.{beneath}
-use Rattle.model.specs.Judge.{told as told_pair}
-use Rattle.model.proofs.Steps.{live_since}
-use Rattle.host.specs.Findings.{chain_pairs}
+use Rattle.model.specs.Judge.{challenge_beneath, pair_of, pairs_of}
+use Rattle.host.specs.Findings.{chain_pairs, is_denied}
 use Rattle.host.specs.declared.judge.Findings.{Findings}
-use Rattle.host.proofs.Chains.{constantly, folded, pairs_are, the_same, with_pair}
+use Rattle.host.proofs.Chains.{constantly, folded, the_same, undenied, with_pair}
 use Rattle.host.proofs.judge.judge_chain.Goals as goal
+
+pub loop-e-init : goal.loop-e-init
+loop-e-init g c =
+    let h = g.H.Host.errors c.args.host.now in
+    let accepts = g.P.Policy.accepted c.args.policy.now in
+    let none : c.default-found.result ≡ record { class = None; accepted = false } = search rules in
+    let all : c.into_iter-e-iterator.result ≡ _ = c.into_iter-e-iterator.ensures.into_iter_gives ∙ the_same (h c.args.error) c.args.error _ _ c.in_ok-e-items.ensures in
+    ap (λ (es : List ℕ). fold (with_pair accepts) c.default-found.result (pairs_of h es)) all
+    ∙ ap (λ (f : Findings). fold (with_pair accepts) f (chain_pairs h c.args.error)) none
+    ∙ folded accepts (record { class = None; accepted = false }) (chain_pairs h c.args.error)
+
+pub loop-e-preserved : goal.loop-e-preserved
+loop-e-preserved g c =
+    let h = g.H.Host.errors c.args.host.now in
+    let accepts = g.P.Policy.accepted c.args.policy.now in
+    let e = c.in-Some.e in
+    let pair : c.pair_in_chain-pair.result ≡ pair_of h e =
+    c.pair_in_chain-pair.ensures ∙ undenied (h e) (challenge_beneath h e) (ap (λ (p : Pair). is_denied p) (sym c.pair_in_chain-pair.ensures) ∙ sym c.is_denied.ensures ∙ c.if-is_denied.false) in
+    let step : c.with-found.result ≡ with_pair accepts c.loop-e.found (pair_of h e) = search rules in
+    ap (λ (f : Findings). fold (with_pair accepts) f (pairs_of h c.next.new.self)) step
+    ∙ ap (λ (es : List ℕ). fold (with_pair accepts) c.loop-e.found (pairs_of h es)) (sym c.in-Some.ensures.steps)
+    ∙ c.loop-e.invariant
 
 pub returns : goal.returns
 returns g c =
-    let host = c.args.host.now in
-    let told = g.H.Host.errors host in
+    let h = g.H.Host.errors c.args.host.now in
     let accepts = g.P.Policy.accepted c.args.policy.now in
-    let e = c.args.error in
-    let challenge = c.in_ok-challenge.challenge in
-    let found = c.in_ok-challenge.ensures in
-    let pairs = pairs_are told _ (g.met.H.Host.lawful host) e challenge (live_since told e _ _ found) (the_same (told e) e _ _ found) in
-    let all = fold_from_yields_List _ (with_pair accepts) _ _ c.fold.ensures.ran
-    (YieldsList-from_map _ (λ e. told_pair (told e) (beneath challenge e)) (YieldsList-at c.map.ensures.source (YieldsList-from_first (λ e. e) (λ rest. rest) _ (the_same (told e) e _ _ c.in_ok-of.ensures)))
-    c.map.ensures.closure (λ x r q k. search (rules, tests))) (λ a x b q k. search (rules, tests)) in
-    let none : c.default.result ≡ record { class = None; accepted = false } = search rules in
-    let begun = ap (λ (f : Findings). fold (with_pair accepts) f (chain_pairs told e)) none ∙ folded accepts (record { class = None; accepted = false }) (chain_pairs told e) in
-    ap Ok (all ∙ ap (λ (ps : List Pair). fold (with_pair accepts) c.default.result ps) pairs ∙ begun) ∙ constantly _ _ _ _ _ found
+    let all = sym (ap (λ (es : List ℕ). fold (with_pair accepts) c.loop-e.found (pairs_of h es)) c.in-None.ensures.steps.0) ∙ c.loop-e.invariant in
+    ap Ok all ∙ constantly (h c.args.error) c.args.error _ _ _ c.in_ok-e-items.ensures

@@ -1,7 +1,6 @@
-use Rattle.vocabulary.specs.Policy.{standard}
-use Rattle.vocabulary.specs.declared.policy.StandardPolicy.TheVariants.{CanRetry}
+use Rattle.questions.specs.Never.{never}
 use Rattle.questions.proofs.Nodes.{class_made}
 use Rattle.questions.proofs.chain.dominant_class.Goals as goal
 
 pub returns : goal.returns
-returns g c = class_made _ _ (standard CanRetry) _ c.in_ok-findings.ensures
+returns g c = class_made _ _ never _ c.in_ok-findings.ensures

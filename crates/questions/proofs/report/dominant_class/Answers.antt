@@ -1,8 +1,7 @@
 use Rattle.std.proofs.Common.{◌≡◌, rules}
-use Rattle.vocabulary.specs.Policy.{standard}
-use Rattle.vocabulary.specs.declared.policy.StandardPolicy.TheVariants.{CanRetry}
 use Rattle.readings.specs.Readings.{class_of}
 use Rattle.questions.specs.Answers.{report_answer}
+use Rattle.questions.specs.Never.{never}
 use Rattle.questions.proofs.Reports.{class_made, given}
 use Rattle.questions.proofs.report.dominant_class.Goals as goal
 
@@ -13,7 +12,7 @@ returns-in_err-findings-clause-reached g c =
     given _ _ (g.met.H.Host.lawful c.args.host.now) c.args.store.now c.args.report.now f _ e
 
 pub returns-clause-answer : goal.returns-clause-answer
-returns-clause-answer g c = class_made c.args.store.now c.args.report.now _ (standard CanRetry) _ c.in_ok-findings.ensures
+returns-clause-answer g c = class_made c.args.store.now c.args.report.now _ never _ c.in_ok-findings.ensures
 
 pub returns-clause-reached : goal.returns-clause-reached
 returns-clause-reached g c = given _ _ (g.met.H.Host.lawful c.args.host.now) c.args.store.now c.args.report.now (class_of (g.H.Host.errors c.args.host.now)) _ (returns-clause-answer g c)

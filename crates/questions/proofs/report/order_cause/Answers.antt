@@ -1,5 +1,5 @@
 use Rattle.std.proofs.Common.{◌<◌, length-set, refl, ap, ◌∙◌, arith, rules}
-use Rattle.std.proofs.lemmas.List.{get_or-replicate}
+use Rattle.std.proofs.lemmas.List.{get_or-replicate, length-replicate}
 use mathlib.Core.Logic.{∥∥₁_elim}
 use native.Mathlib.Bridge.{le_prop}
 use Rattle.trees.specs.Trees.{only}
@@ -14,7 +14,7 @@ use Rattle.questions.proofs.report.order_cause.Goals.{In-Some}
 use Rattle.questions.proofs.report.order_cause.Goals as goal
 
 -- the parent stands before the frame
-inside : (g : Over) (c : In-Some g) → c.in-Some.parent < 1024
+inside : (g : Over) (c : In-Some g) → c.in-Some.parent < g.row.N
 inside g c =
     ∥∥₁_elim c.requires.frames le_prop (λ w.
     let few = c.requires.few in
@@ -26,8 +26,8 @@ inside g c =
 pub loop-i-init : goal.loop-i-init
 loop-i-init g c = record {
   low = λ x. x;
-  long = refl;
-  gathered = gathered_none visited c.args.order.now meant Nothing (frame_shows (g.H.Host.errors c.args.host.now)) _ _ refl (λ p lt. ap meant (get_or-replicate 1024 p Nothing Nothing (let few = c.requires.few in omega arith)));
+  long = length-replicate g.row.N Nothing;
+  gathered = gathered_none visited c.args.order.now meant Nothing (frame_shows (g.H.Host.errors c.args.host.now)) _ _ refl (λ p lt. ap meant (get_or-replicate g.row.N p Nothing Nothing (let few = c.requires.few in omega arith)));
 }
 
 pub offset_bounds-gathered-parent : goal.offset_bounds-gathered-parent
@@ -75,3 +75,9 @@ returns g c = λ t is.
     let low = v.low (some c.args.order.now t is) in
     let end = c.loop-i-test.false in
     c.or.ensures ∙ cause_gathered c.args.order.now t is (g.H.Host.errors c.args.host.now) c.loop-i.i c.loop-i.gathered _ _ v.gathered (omega arith) c.frame_seen.ensures
+
+pub overflow_cast-parent : goal.overflow_cast-parent
+overflow_cast-parent g c = let h = inside g (goal.at.overflow_cast-parent g c).In-Some in search rules
+
+pub bounds-gathered-0 : goal.bounds-gathered-0
+bounds-gathered-0 g c = ∥∥₁_elim c.requires.frames le_prop (λ w. let n = some c.args.order.now w.0 w.1 in let few = c.requires.few in let long = c.loop-i.invariant.long in omega arith)

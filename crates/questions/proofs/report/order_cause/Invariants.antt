@@ -5,6 +5,6 @@ use Rattle.questions.proofs.report.order_cause.Given as goal
 abbrev pub invariant-loop-i : goal.invariant-loop-i
 invariant-loop-i g l = record {
   low : 0 < length l.order → 0 < l.i;
-  long : length l.gathered ≡ 1024;
+  long : length l.gathered ≡ g.row.N;
   gathered : OrderGathered (g.H.Host.errors l.host) l.order l.i l.gathered;
 }

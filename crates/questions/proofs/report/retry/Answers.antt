@@ -1,4 +1,4 @@
-use Rattle.std.proofs.Common.{◌≡◌, Ok, rules}
+use Rattle.std.proofs.Common.{◌≡◌, rules}
 use Rattle.readings.specs.Readings.{verdict_of}
 use Rattle.questions.proofs.Reports.{given, verdict_made}
 use Rattle.questions.specs.Answers.{report_answer}

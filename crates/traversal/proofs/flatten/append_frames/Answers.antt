@@ -1,4 +1,4 @@
-use Rattle.std.proofs.Common.{◌≡◌, ℕ, ◌+◌, ◌<◌, ◌≤◌, map, length, subst, arith, rules}
+use Rattle.std.proofs.Common.{◌≡◌, ℕ, ◌+◌, ◌<◌, ◌≤◌, map, length, sym, ◌∙◌, subst, arith, rules}
 use mathlib.Core.Logic.{∥∥₁_elim}
 use native.Mathlib.Bridge.{le_prop}
 use native.Mathlib.Numerals.{unary_clauses}
@@ -6,7 +6,7 @@ use Rattle.traversal.specs.Put.{Put}
 use Rattle.traversal.specs.Spread.{from_forest, wait_node}
 use Rattle.traversal.proofs.Lists.{listing_none, listing_more, listing_stop, listing_all, within}
 use Rattle.traversal.proofs.flatten.append_frames.Goals as goal
-use Rattle.traversal.proofs.flatten.append_frames.Goals.{Then-ne, After-node, After-loop-k}
+use Rattle.traversal.proofs.flatten.append_frames.Goals.{Then-not-is_beneath, After-node, After-loop-k}
 
 pub loop-k-init : goal.loop-k-init
 loop-k-init c = λ f n room. simp unary_clauses (listing_none _ _ _ _ _ f room n)
@@ -16,12 +16,12 @@ overflow_add-result c =
     let h : c.args.start + c.loop-k.k ≤ length c.args.list.now = ∥∥₁_elim c.requires le_prop (λ w. within c.args.order.now _ _ _ _ w.0 w.2 _ c.loop-k.k _ (c.loop-k.invariant w.0 w.1 w.2)) in
     search rules
 
-pub returns-then-ne : goal.returns-then-ne
-returns-then-ne c = λ f n room. listing_stop c.args.order.now _ _ _ _ f room _ c.loop-k.k _ (c.loop-k.invariant f n room) c.if-ne.ensures
+pub returns-then-not-is_beneath : goal.returns-then-not-is_beneath
+returns-then-not-is_beneath c = λ f n room. listing_stop c.args.order.now _ _ _ _ f room _ c.loop-k.k _ (c.loop-k.invariant f n room) (sym c.is_beneath.ensures ∙ c.if-not-is_beneath.true)
 
 below : (c : After-node) → c.args.start + c.loop-k.k < length c.args.list.now
 below c = ∥∥₁_elim c.requires le_prop (λ w.
-    (listing_more _ _ _ _ _ w.0 w.2 _ _ _ (c.loop-k.invariant w.0 w.1 w.2) c.loop-k-test.true c.if-ne.ensures).below)
+    (listing_more _ _ _ _ _ w.0 w.2 _ _ _ (c.loop-k.invariant w.0 w.1 w.2) c.loop-k-test.true (sym c.is_beneath.ensures ∙ c.if-not-is_beneath.false)).below)
 
 pub overflow_add-start : goal.overflow_add-start
 overflow_add-start c = let h = below c in search rules
@@ -36,7 +36,7 @@ pub loop-k-preserved : goal.loop-k-preserved
 loop-k-preserved c = λ f n room.
     let e : c.args.start + (c.loop-k.k + 1) ≡ c.args.start + c.loop-k.k + 1 = omega arith in
     rw (c.node.ensures, e)
-    (listing_more _ _ _ _ _ f room _ _ _ (c.loop-k.invariant f n room) c.loop-k-test.true c.if-ne.ensures).listing
+    (listing_more _ _ _ _ _ f room _ _ _ (c.loop-k.invariant f n room) c.loop-k-test.true (sym c.is_beneath.ensures ∙ c.if-not-is_beneath.false)).listing
 
 at_end : (c : After-loop-k) → c.loop-k.k ≡ length c.args.order.now
 at_end c = let e = c.loop-k.auto.k-end in let t = c.loop-k-test.false in omega arith

@@ -6,4 +6,4 @@ use Rattle.traversal.proofs.Walks.{root, At}
 use Rattle.traversal.proofs.order.breadth_first.Given as goal
 
 abbrev pub invariant-loop-i : goal.invariant-loop-i
-invariant-loop-i l = (a : At l.frames l.root) → Walk (frames_of l.frames) l.order.items (size a.kids + 1) l.i (root l.root a.tree a.kids)
+invariant-loop-i g l = (a : At l.frames l.root) → Walk (frames_of l.frames) l.order.items (size a.kids + 1) l.i (root l.root a.tree a.kids)

@@ -1,0 +1,13 @@
+use Rattle.std.proofs.Common.{◌≡◌}
+use Rattle.std.specs.List.{fold}
+use Rattle.model.specs.Judge.{pairs_of}
+use Rattle.host.specs.Findings.{chain_pairs, findings_of}
+use Rattle.host.proofs.Chains.{with_pair}
+use Rattle.host.proofs.judge.judge_chain.Given as goal
+
+-- the errors so far and those to come make the findings of the chain
+abbrev pub invariant-loop-e : goal.invariant-loop-e
+invariant-loop-e g l =
+    let h = g.H.Host.errors l.host in
+    let accepts = g.P.Policy.accepted l.policy in
+    fold (with_pair accepts) l.found (pairs_of h l.e-iterator) ≡ findings_of accepts (chain_pairs h l.error)
