@@ -1,0 +1,5 @@
+pub mod Kept
+pub mod Lines
+pub mod Runs
+pub mod Forks
+pub mod Heads

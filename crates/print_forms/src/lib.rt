@@ -1,0 +1,2 @@
+// The printed forms of reports and chains: definitions and their laws.
+#![tactic(auto)]

@@ -1,0 +1,13 @@
+pub mod Errors
+pub mod Roots
+pub mod Alive
+pub mod Flat
+pub mod Guides
+pub mod Positions
+pub mod LineLists
+pub mod Refused
+pub mod Counts
+pub mod Planned
+pub mod Few
+pub mod TextLengths
+pub mod Reported

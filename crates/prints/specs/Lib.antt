@@ -1,0 +1,4 @@
+pub mod Puts
+pub mod ChainPrints
+pub mod LineTexts
+pub mod TreePrints

@@ -1,0 +1,11 @@
+pub mod Alike
+pub mod Beside
+pub mod Kept
+pub mod Firsts
+pub mod Gathering
+pub mod Following
+pub mod Joined
+pub mod Marked
+pub mod Heads
+pub mod Few
+pub mod Marking
