@@ -184,11 +184,12 @@ fn put_escaped(out: &mut Vec<u8>, byte: u8) -> Result<(), AllocError>
     }
 }
 
-fn put_text(out: &mut Vec<u8>, text: &Text) -> Result<(), AllocError>
-    ensures { OnOk result (out.new.items ≡ out.old.items ++ quoted text.now.items) }
+// Puts a text between quotes.
+pub fn put_quoted(out: &mut Vec<u8>, text: &[u8]) -> Result<(), AllocError>
+    ensures { OnOk result (out.new.items ≡ out.old.items ++ quoted text.now) }
 {
     out.push(b'"')?;
-    for byte in text.as_slice() {
+    for byte in text {
         put_escaped(out, *byte)?;
     }
     out.push(b'"')?;
@@ -229,7 +230,7 @@ fn put_record(out: &mut Vec<u8>, error: u16, record: &Record) -> Result<(), Allo
         ),
     }?;
     out.push(b' ')?;
-    put_text(out, &record.text)
+    put_quoted(out, record.text.as_slice())
 }
 
 fn host_word(host: HostName) -> Word

@@ -1,10 +1,12 @@
 // What is printed of a report.
+use cases::writing::put_quoted;
 use classes::class::Class;
 use host::host::Host;
 use nodes::node::Node;
 use runs::call::Reading;
-use std::alloc::AllocError;
+use std::alloc::{AllocError, Global};
 use std::fmt::Write;
+use traversal::marker::is_marker;
 use vocabulary::kind::Kind;
 
 // How the answers are printed.
@@ -16,13 +18,15 @@ pub enum Style {
     Plain,
 }
 
-fn yes_or_no(answer: bool) -> &'static str {
-    if answer { "yes" } else { "no" }
+// What answers are printed with.
+#[derive(Clone, Copy)]
+pub struct Printer {
+    pub heap: Global,
+    pub style: Style,
 }
 
-// Whether an error of the host is a marker.
-fn is_marker<H: Host>(host: &H, error: u16) -> bool {
-    host.kind(error).is_ok_and(|kind| kind.is_marker())
+fn yes_or_no(answer: bool) -> &'static str {
+    if answer { "yes" } else { "no" }
 }
 
 // A node in the form of recorded answers.
@@ -40,16 +44,32 @@ fn plain_node(out: &mut String, index: usize, node: &Node) -> Result<(), AllocEr
 fn plain_errors<H: Host>(out: &mut String, host: &H, nodes: &[Node]) -> Result<(), AllocError> {
     out.push_str("errors")?;
     for node in nodes {
-        let error = node.error.number();
-        if !is_marker(host, error) {
+        if !is_marker(host, node.error) {
+            let error = node.error.number();
             write!(out, " {error}")?;
         }
     }
     writeln!(out, "")
 }
 
-// The answers of a report in the recorded form, as far as the library gives them.
-fn plain<H: Host>(out: &mut String, host: &H, reading: &Reading) -> Result<(), AllocError> {
+// A print in the form of recorded answers.
+fn plain_print(heap: Global, out: &mut String, form: &str, print: &[u8]) -> Result<(), AllocError> {
+    let mut quoted = Vec::new(heap);
+    put_quoted(&mut quoted, print)?;
+    match std::str::from_utf8(quoted.as_slice()) {
+        Ok(text) => writeln!(out, "{form} {text}"),
+        Err(_) => writeln!(out, "{form} (not UTF-8)"),
+    }
+}
+
+// The answers of a report in the recorded form, as far as the library gives them. The tree of a chain has no print of its own.
+fn plain<H: Host>(
+    heap: Global,
+    out: &mut String,
+    host: &H,
+    reading: &Reading,
+    of_chain: bool,
+) -> Result<(), AllocError> {
     let nodes = reading.nodes.as_slice();
     let count = nodes.len();
     writeln!(out, "nodes {count}")?;
@@ -67,7 +87,12 @@ fn plain<H: Host>(out: &mut String, host: &H, reading: &Reading) -> Result<(), A
     let strict = yes_or_no(reading.can_retry);
     let lenient = yes_or_no(reading.can_retry_lenient);
     let cause = reading.cause.number();
-    writeln!(out, "retry {strict}\nlenient {lenient}\ncause {cause}")
+    writeln!(out, "retry {strict}\nlenient {lenient}\ncause {cause}")?;
+    if !of_chain {
+        plain_print(heap, out, "tree", reading.tree.as_slice())?;
+    }
+    plain_print(heap, out, "chain", reading.chain.as_slice())?;
+    plain_print(heap, out, "inline", reading.inline.as_slice())
 }
 
 // What a kind says beside its name.
@@ -120,7 +145,23 @@ fn node_row<H: Host>(
     describe(out, host, error)
 }
 
-// A report for people: class, verdicts, cause, and one error a row.
+// A print for people, each of its lines indented.
+fn indented_print(out: &mut String, title: &str, print: &[u8]) -> Result<(), AllocError> {
+    writeln!(out, "    {title}:")?;
+    let Ok(text) = std::str::from_utf8(print) else {
+        return writeln!(out, "      (not UTF-8)");
+    };
+    for line in text.lines() {
+        if line.is_empty() {
+            writeln!(out, "")?;
+        } else {
+            writeln!(out, "      {line}")?;
+        }
+    }
+    Ok(())
+}
+
+// A report for people: class, verdicts, cause, one error a row, and the prints.
 fn table<H: Host>(out: &mut String, host: &H, reading: &Reading) -> Result<(), AllocError> {
     match reading.class {
         Some(class) => write!(out, "    class {class}")?,
@@ -136,18 +177,21 @@ fn table<H: Host>(out: &mut String, host: &H, reading: &Reading) -> Result<(), A
     for (index, node) in reading.nodes.iter().enumerate() {
         node_row(out, host, index, node)?;
     }
-    Ok(())
+    indented_print(out, "As a tree", reading.tree.as_slice())?;
+    indented_print(out, "As a chain", reading.chain.as_slice())?;
+    indented_print(out, "On one line", reading.inline.as_slice())
 }
 
 // What the questions answer of a report.
 pub fn report<H: Host>(
     out: &mut String,
-    style: Style,
+    printer: Printer,
     host: &H,
     reading: &Reading,
+    of_chain: bool,
 ) -> Result<(), AllocError> {
-    match style {
+    match printer.style {
         Style::Account => table(out, host, reading),
-        Style::Plain => plain(out, host, reading),
+        Style::Plain => plain(printer.heap, out, host, reading, of_chain),
     }
 }

@@ -1,11 +1,10 @@
 // What the questions answer, in the middle of a case and at its end.
-use crate::account::{Style, report};
-use crate::events::events;
+use crate::account::{Printer, Style, report};
+use crate::events::{Sizes, events, frames_made};
 use crate::layered::Task;
-use crate::pile::Pile;
+use crate::layered_host::LayeredHost;
 use anyhow::anyhow;
-use cases::call::Call as Planned;
-use plans::case::{Action, Case, Step};
+use plans::case::{Case, Step};
 use runs::call::{Answer, Call, Event, Name, Outcome};
 use runs::run::run;
 use std::alloc::{AllocError, Global};
@@ -24,8 +23,7 @@ pub enum Subject {
 // Asks everything of a report in the middle of a case.
 #[derive(Clone, Copy)]
 pub struct Asked<'a> {
-    pub heap: Global,
-    pub style: Style,
+    pub printer: Printer,
     pub case: &'a Case,
     // the steps before the question
     pub steps: &'a [Step],
@@ -37,8 +35,7 @@ pub struct Asked<'a> {
 // Asks everything of all that stands at the end of a case.
 #[derive(Clone, Copy)]
 pub struct Standing<'a> {
-    pub heap: Global,
-    pub style: Style,
+    pub printer: Printer,
     pub case: &'a Case,
 }
 
@@ -60,37 +57,38 @@ fn title(out: &mut String, style: Style, subject: Subject) -> Result<(), AllocEr
 }
 
 // The answers of the report that is the n-th to come to be.
-fn answers<H: Pile>(
+fn answers<H: LayeredHost>(
     out: &mut String,
-    style: Style,
+    printer: Printer,
     host: &H,
     outcome: &Outcome,
     subject: Subject,
     n: usize,
 ) -> anyhow::Result<()> {
-    title(out, style, subject)?;
+    title(out, printer.style, subject)?;
+    let of_chain = matches!(subject, Subject::Chain(_));
     match outcome.readings.get(n) {
-        Some(Some(reading)) => Ok(report(out, style, host, reading)?),
+        Some(Some(reading)) => Ok(report(out, printer, host, reading, of_chain)?),
         _ => Err(anyhow!("a report does not stand")),
     }
 }
 
 impl<'a> Task for Asked<'a> {
-    fn over<H: Pile + Drop>(&self, mut host: H, out: &mut String) -> anyhow::Result<()>
+    fn over<H: LayeredHost + Drop>(&self, mut host: H, out: &mut String) -> anyhow::Result<()>
     where
         H::Addition: Drop,
     {
-        let layers = self.case.layers.len();
-        let events = events::<H>(self.heap, layers, self.steps)?;
-        let outcome = run(self.heap, &mut host, &StandardPolicy::CanRetry, events)?;
+        let heap = self.printer.heap;
+        let events = events::<H>(heap, Sizes::of(self.case), self.steps)?;
+        let outcome = run(heap, &mut host, &StandardPolicy::CanRetry, events)?;
         let line = self.line;
-        if self.style == Style::Account {
+        if self.printer.style == Style::Account {
             writeln!(out, "  At line {line}:")?;
         }
         let n = usize::from(self.report);
         answers(
             out,
-            self.style,
+            self.printer,
             &host,
             &outcome,
             Subject::Report(self.name),
@@ -99,19 +97,13 @@ impl<'a> Task for Asked<'a> {
     }
 }
 
-// How many reports a basket may have: no more than calls that make a frame, nor than a store has frames.
+// How many reports a basket may have: no more than frames that are made, nor than a store has frames.
 fn most_reports(steps: &[Step]) -> usize {
-    let making = steps.iter().filter(|step| {
-        matches!(
-            step.action,
-            Action::Call(Planned::New { .. } | Planned::Raise { .. } | Planned::RaiseAll { .. })
-        )
-    });
-    making.count().min(1024)
+    frames_made(steps).min(1024)
 }
 
 // All events of a case, then takes that empty each basket, then the trees of all chains.
-fn all_events<H: Pile>(
+fn all_events<H: LayeredHost>(
     heap: Global,
     case: &Case,
     takes: usize,
@@ -119,7 +111,7 @@ fn all_events<H: Pile>(
 where
     H::Addition: Drop,
 {
-    let mut events = events::<H>(heap, case.layers.len(), case.steps.as_slice())?;
+    let mut events = events::<H>(heap, Sizes::of(case), case.steps.as_slice())?;
     for (_name, basket) in &case.standing.baskets {
         for _ in 0..takes {
             let basket = Name::Made(usize::from(*basket));
@@ -135,9 +127,9 @@ where
 
 // The answers of a basket's reports, the n-th to come to be and those after it, where these answers came of its takes; and how
 // many came to be with them.
-fn of_basket<H: Pile>(
+fn of_basket<H: LayeredHost>(
     out: &mut String,
-    style: Style,
+    printer: Printer,
     host: &H,
     outcome: &Outcome,
     basket: u16,
@@ -149,7 +141,7 @@ fn of_basket<H: Pile>(
         if let Answer::Taken { .. } = answer {
             answers(
                 out,
-                style,
+                printer,
                 host,
                 outcome,
                 Subject::Basket(basket, position),
@@ -162,7 +154,7 @@ fn of_basket<H: Pile>(
 }
 
 // The answers of everything that stands; those to the added events begin at a place.
-fn of_all<H: Pile>(
+fn of_all<H: LayeredHost>(
     out: &mut String,
     standing: &Standing<'_>,
     host: &H,
@@ -170,12 +162,12 @@ fn of_all<H: Pile>(
     place: usize,
     takes: usize,
 ) -> anyhow::Result<()> {
-    let style = standing.style;
+    let printer = standing.printer;
     let names = &standing.case.standing;
     for (name, n) in &names.reports {
         answers(
             out,
-            style,
+            printer,
             host,
             outcome,
             Subject::Report(*name),
@@ -186,30 +178,31 @@ fn of_all<H: Pile>(
     let mut next = usize::from(names.made);
     for (name, _n) in &names.baskets {
         let (taken, others) = added.split_at(takes.min(added.len()));
-        next = of_basket(out, style, host, outcome, *name, taken, next)?;
+        next = of_basket(out, printer, host, outcome, *name, taken, next)?;
         added = others;
     }
     for ((name, _n), answer) in names.chains.iter().zip(added) {
         let Answer::Report(_) = answer else {
             return Err(anyhow!("there is no room for the tree of c{name}"));
         };
-        answers(out, style, host, outcome, Subject::Chain(*name), next)?;
+        answers(out, printer, host, outcome, Subject::Chain(*name), next)?;
         next = next.saturating_add(1);
     }
     Ok(())
 }
 
 impl<'a> Task for Standing<'a> {
-    fn over<H: Pile + Drop>(&self, mut host: H, out: &mut String) -> anyhow::Result<()>
+    fn over<H: LayeredHost + Drop>(&self, mut host: H, out: &mut String) -> anyhow::Result<()>
     where
         H::Addition: Drop,
     {
         let steps = self.case.steps.as_slice();
-        let place = events::<H>(self.heap, self.case.layers.len(), steps)?.len();
+        let heap = self.printer.heap;
+        let place = events::<H>(heap, Sizes::of(self.case), steps)?.len();
         let takes = most_reports(steps);
-        let events = all_events::<H>(self.heap, self.case, takes)?;
-        let outcome = run(self.heap, &mut host, &StandardPolicy::CanRetry, events)?;
-        if self.style == Style::Account {
+        let events = all_events::<H>(heap, self.case, takes)?;
+        let outcome = run(heap, &mut host, &StandardPolicy::CanRetry, events)?;
+        if self.printer.style == Style::Account {
             writeln!(out, "  At the end:")?;
         }
         of_all(out, self, &host, &outcome, place, takes)

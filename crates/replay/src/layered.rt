@@ -1,5 +1,5 @@
 // The host of a case.
-use crate::pile::Pile;
+use crate::layered_host::LayeredHost;
 use cases::statement::{HostName, LayerName, Record as Written};
 use classes::class::Class;
 use drive_host::drive::DriveHost;
@@ -13,7 +13,7 @@ use vocabulary::kind::Kind;
 
 // What is done over the host of a case, whichever it is; what there is to print goes to the end of a text.
 pub trait Task {
-    fn over<H: Pile + Drop>(&self, host: H, out: &mut String) -> anyhow::Result<()>
+    fn over<H: LayeredHost + Drop>(&self, host: H, out: &mut String) -> anyhow::Result<()>
     where
         H::Addition: Drop;
 }
@@ -48,7 +48,7 @@ fn table(heap: Global, written: &[Written]) -> Result<TableHost, AllocError> {
 }
 
 // A task over a host and the layers on it, from the bottom up; a case has at most one of each kind.
-fn under<H: Pile + Drop, T: Task>(
+fn under<H: LayeredHost + Drop, T: Task>(
     base: H,
     layers: &[LayerName],
     task: &T,

@@ -6,7 +6,7 @@ mod asking;
 mod events;
 mod input;
 mod layered;
-mod pile;
+mod layered_host;
 mod replaying;
 mod steps;
 

@@ -1,5 +1,5 @@
 // Cases, one after the other.
-use crate::account::Style;
+use crate::account::{Printer, Style};
 use crate::asking::{Asked, Standing};
 use crate::layered::over_case;
 use crate::steps::Steps;
@@ -57,19 +57,18 @@ fn title(out: &mut String, style: Style, case: &Case) -> anyhow::Result<()> {
 }
 
 // The questions in the middle of a case.
-fn asked(heap: Global, out: &mut String, style: Style, case: &Case) -> anyhow::Result<()> {
+fn asked(out: &mut String, printer: Printer, case: &Case) -> anyhow::Result<()> {
     for (index, step) in case.steps.iter().enumerate() {
         if let Action::Ask { report, name } = step.action {
             let task = Asked {
-                heap,
-                style,
+                printer,
                 case,
                 steps: &case.steps.as_slice()[..index],
                 line: step.line,
                 report,
                 name,
             };
-            over_case(heap, case, &task, out)?;
+            over_case(printer.heap, case, &task, out)?;
         }
     }
     Ok(())
@@ -90,8 +89,9 @@ fn replay_case(
         lines,
     };
     over_case(heap, case, &steps, out)?;
-    asked(heap, out, style, case)?;
-    let standing = Standing { heap, style, case };
+    let printer = Printer { heap, style };
+    asked(out, printer, case)?;
+    let standing = Standing { printer, case };
     over_case(heap, case, &standing, out)
 }
 

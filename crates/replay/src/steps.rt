@@ -1,8 +1,8 @@
 // The steps of a case, and what their calls answer.
 use crate::account::Style;
-use crate::events::{event, events};
+use crate::events::{Sizes, event, events};
 use crate::layered::Task;
-use crate::pile::Pile;
+use crate::layered_host::LayeredHost;
 use anyhow::anyhow;
 use cases::call::Call;
 use plans::case::{Action, Case, Step};
@@ -17,11 +17,11 @@ fn is_question(action: Action) -> bool {
 }
 
 // Whether an action is an event.
-fn is_event<H: Pile>(layers: usize, action: Action) -> bool
+fn is_event<H: LayeredHost>(sizes: Sizes, action: Action) -> bool
 where
     H::Addition: Drop,
 {
-    event::<H>(layers, action).is_some()
+    event::<H>(sizes, action).is_some()
 }
 
 // What a granted call answered; or why the case does not go on there.
@@ -98,18 +98,18 @@ fn print_step(
 }
 
 impl<'a> Task for Steps<'a> {
-    fn over<H: Pile + Drop>(&self, mut host: H, out: &mut String) -> anyhow::Result<()>
+    fn over<H: LayeredHost + Drop>(&self, mut host: H, out: &mut String) -> anyhow::Result<()>
     where
         H::Addition: Drop,
     {
-        let layers = self.case.layers.len();
+        let sizes = Sizes::of(self.case);
         let steps = self.case.steps.as_slice();
-        let events = events::<H>(self.heap, layers, steps)?;
+        let events = events::<H>(self.heap, sizes, steps)?;
         let outcome = run(self.heap, &mut host, &StandardPolicy::CanRetry, events)?;
         let mut answers = outcome.answers.iter();
         for step in steps {
             if !is_question(step.action) {
-                let answer = if is_event::<H>(layers, step.action) {
+                let answer = if is_event::<H>(sizes, step.action) {
                     answers.next().copied()
                 } else {
                     None

@@ -13,7 +13,7 @@ use Rattle.model.specs.Host.{Errors, Extends}
 use Rattle.nodes.specs.declared.node.Node.{Node}
 use Rattle.trees.specs.Counting.{total}
 use Rattle.ledger.specs.Causes.{frame_cause, held, is_held, unless}
-use Rattle.ledger.specs.Ledger.{Fresh, Ledger, discarded, free, nothing, rebuilt}
+use Rattle.ledger.specs.Ledger.{Ledger, discarded, free, nothing, rebuilt}
 use Rattle.drive_host.specs.Drive.{drive_errors}
 use Rattle.store.specs.Calls as calls
 use Rattle.store.specs.Calls.{report_held}

@@ -1,10 +1,10 @@
 -- Readings of reports of a store that calls have led to.
-use Rattle.std.proofs.Common.{◌≡◌, ℕ, ◌+◌, ◌<◌, ◌≤◌, Bool, true, false, cond, List, ◌++◌, length, drop, is_some, is_ok, IsOk, [], drop_of_length-le, Some, None, Ok, Err, Option, Result, sym, refl, ap, ◌∙◌, subst, eqb, eq-eqb, leb, arith, nat_le, append-nil, le-leb}
+use Rattle.std.proofs.Common.{◌≡◌, ℕ, ◌<◌, ◌≤◌, Bool, true, false, cond, List, ◌++◌, length, is_some, is_ok, IsOk, [], drop_of_length-le, Some, None, Ok, Err, Option, Result, sym, ap, ◌∙◌, subst, eqb, eq-eqb, arith, nat_le, append-nil, le-leb, nat_lt}
 use mathlib.Core.Logic.{∥∥₁_elim}
 use mathlib.Core.Bool.{Bool-set}
 use Rattle.std.proofs.lemmas.Bool.{and_from, lt-leb}
 use Rattle.vocabulary.specs.declared.fault.StoreFault.{StoreFault}
-use Rattle.vocabulary.specs.declared.fault.StoreFault.TheVariants.{ListTooShort, NotHeld}
+use Rattle.vocabulary.specs.declared.fault.StoreFault.TheVariants.{ListTooShort}
 use Rattle.model.specs.Host.{Errors, Lawful}
 use Rattle.trees.specs.Trees.{Tree}
 use Rattle.nodes.specs.declared.node.Node.{Node}
@@ -15,8 +15,6 @@ use Rattle.ledger.specs.Causes.{all_live, held, unless}
 use Rattle.ledger.specs.Ledger.{Ledger}
 use Rattle.readings.proofs.Explicit.{listed-live}
 use Rattle.readings.proofs.Laws.{first_not_live_by_frames}
-use Rattle.readings.specs.Readings.{errors_of, first_not_live}
-use Rattle.store.specs.Calls.{report_held}
 use Rattle.store.specs.Chains.{flatten_cause, list_cause_of}
 use Rattle.store.specs.Reached.{LiveReport}
 use Rattle.store.specs.Store.{ledger_of}
@@ -25,7 +23,12 @@ use Rattle.store.specs.declared.store.Store.{Store}
 use Rattle.store.proofs.Reached.{stands}
 use Rattle.chains.specs.Iter.{ReportNodes}
 use Rattle.questions.specs.Answers.{GivenByLedger}
+use Rattle.vocabulary.specs.declared.fault.PrintFault.{PrintFault}
+use Rattle.vocabulary.specs.declared.fault.PrintFault.TheVariants.{BufferTooShort, Host as Raised, Store as Kept}
+use Rattle.print_forms.specs.Prints.{tree_print}
+use Rattle.prints.specs.TreePrints.{TreePrinted, buffer_cause_of, flattened_onto, list_after, or_then, print_cause, unless_refused}
 use Rattle.runs.specs.Held.{Held}
+use Rattle.runs.specs.Printed.{bytes_needed}
 
 pub ok_same : {A : Type 0} {a b : A} → ◌≡◌ {A = Result A StoreFault} (Ok a) (Ok b) → a ≡ b
 ok_same e = cc
@@ -42,7 +45,7 @@ module _ (h : Errors) (s : Store) (x : Exn) where
     pub there : (ledger_of s).reports x.root ≡ Some t
     there = ap (λ (k : Ledger). k.reports x.root) (stands h s w.ledger w.reached).ledger ∙ w.tree
 
-    live : LiveTree h t
+    pub live : LiveTree h t
     live = subst (LiveReport h) w.tree ((stands h s w.ledger w.reached).reports x.root)
 
     -- only want of room keeps a report from being listed
@@ -70,3 +73,37 @@ module _ (h : Errors) (s : Store) (x : Exn) where
         go : (r : Result ℕ StoreFault) → ReportNodes s h x before after r → flatten_cause s h x (length before) ≡ None → after ≡ flattening h t
         go (Ok n) q c = let k = q.1 t there in k.1 ∙ ap (λ (xs : List Node). flattening h t ++ xs) (drop_of_length-le before {i = n} (let m = k.0 in omega arith)) ∙ append-nil (flattening h t)
         go (Err f) q c = absurd (let g : Some f ≡ None = sym q.0 ∙ c in cc)
+
+    -- a list that is its flattening has room for it
+    pub no_cause : (list : List Node) → list ≡ flattening h t → flatten_cause s h x (length list) ≡ None
+    no_cause list e = room_cause (length list) ∙ ap (λ (b : Bool). unless b (ListTooShort (length (flattening h t))) None) (le-leb (length (flattening h t)) (length list) (let m = ap length e in omega arith))
+
+    -- and a print leaves it as it is
+    pub list_kept : (list : List Node) → list ≡ flattening h t → list_after s h x list ≡ list
+    list_kept list e =
+        ap (λ (o : Option StoreFault). unless_refused o (flattened_onto h ((ledger_of s).reports x.root) list) list) (no_cause list e)
+        ∙ ap (λ (o : Option Tree). flattened_onto h o list) there
+        ∙ ap (λ (xs : List Node). flattening h t ++ xs) (drop_of_length-le list {i = length (flattening h t)} (let m = ap length e in omega arith))
+        ∙ append-nil (flattening h t)
+        ∙ sym e
+
+    -- a buffer for which an empty one was refused is no longer than the print
+    short_enough : (r : Result ℕ PrintFault) (list : List Node) (out : List ℕ) → list ≡ flattening h t → TreePrinted s h x (length list) [] out r → bytes_needed r ≤ length (tree_print h t)
+    short_enough (Ok n) list out e p = omega arith
+    short_enough (Err (Raised f)) list out e p = omega arith
+    short_enough (Err (Kept f)) list out e p = omega arith
+    short_enough (Err (BufferTooShort n)) list out e p = go (nat_lt 0 (length (tree_print h t))) (sym (is_caused) ∙ p.0)
+      where
+        is_caused : print_cause s h x (length list) 0 ≡ cond (nat_lt 0 (length (tree_print h t))) (Some (BufferTooShort (length (tree_print h t)))) None
+        is_caused = ap (λ (o : Option StoreFault). or_then o (buffer_cause_of h ((ledger_of s).reports x.root) 0)) (no_cause list e) ∙ ap (λ (o : Option Tree). buffer_cause_of h o 0) there
+
+        go : (b : Bool) → cond b (Some (BufferTooShort (length (tree_print h t)))) None ≡ Some (BufferTooShort n) → n ≤ length (tree_print h t)
+        go true q = let same : n ≡ length (tree_print h t) = cc in omega arith
+        go false q = absurd (let no : ◌≡◌ {A = Option PrintFault} None (Some (BufferTooShort n)) = q in cc)
+
+    -- and is then filled by it
+    pub filled : (r : Result ℕ PrintFault) (list : List Node) (out old new : List ℕ) (n room : ℕ) → list ≡ flattening h t → TreePrinted s h x (length list) [] out r → length old ≡ bytes_needed r → TreePrinted s h x room old new (Ok n) → new ≡ tree_print h t
+    filled r list out old new n room e p q w =
+        let short = short_enough r list out e p in
+        let k = w.1 t there in
+        k.1 ∙ ap (λ (bs : List ℕ). tree_print h t ++ bs) (drop_of_length-le old {i = n} (let m = k.0 in omega arith)) ∙ append-nil (tree_print h t)

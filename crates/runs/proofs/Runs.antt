@@ -1,5 +1,5 @@
 -- A run goes on by one event, and readings by one report.
-use Rattle.std.proofs.Common.{◌≡◌, ℕ, Bool, List, [], ◌∷◌, ◌++◌, Option, refl, subst}
+use Rattle.std.proofs.Common.{ℕ, Bool, List, [], ◌∷◌, ◌++◌, Option, refl, subst}
 use Rattle.vocabulary.specs.declared.policy.Pair.{Pair}
 use Rattle.runs.specs.Law.{AllRead, Ran, ReadIf, tree_named}
 use Rattle.runs.specs.declared.call.Reading.{Reading}

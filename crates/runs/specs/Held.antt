@@ -1,5 +1,5 @@
 -- A report of a store that calls have led to.
-use Rattle.std.specs.Prelude.{◌≡◌, ℕ, Ok, Err, Some, Result}
+use Rattle.std.specs.Prelude.{◌≡◌, ℕ, Err, Some, Result}
 use Rattle.vocabulary.specs.declared.fault.StoreFault.{StoreFault}
 use Rattle.vocabulary.specs.declared.fault.StoreFault.TheVariants.{ListTooShort}
 use Rattle.model.specs.Host.{Errors}

@@ -8,6 +8,7 @@ use Rattle.trees.specs.Trees.{Tree}
 use Rattle.nodes.specs.Flattening.{flattening}
 use Rattle.readings.specs.Readings.{Cause, class_of, verdict_of}
 use Rattle.ledger.specs.Ledger.{nothing}
+use Rattle.print_forms.specs.Prints.{chain_print, inline_print, tree_print}
 use Rattle.runs.specs.State.{State}
 use Rattle.runs.specs.Step.{Step}
 use Rattle.runs.specs.declared.call.Answer.{Answer}
@@ -39,6 +40,9 @@ pub record Reads (h : Errors) (accepts : Pair → Bool) (t : Tree) (r : Reading)
   pub can_retry : r.can_retry ≡ verdict_of h (standard CanRetry) t
   pub can_retry_lenient : r.can_retry_lenient ≡ verdict_of h (standard CanRetryLenient) t
   pub cause : Cause h t r.cause
+  pub tree : r.tree.items ≡ tree_print h t
+  pub chain : r.chain.items ≡ chain_print h t
+  pub inline : r.inline.items ≡ inline_print h t
 
 -- the tree of the report that a name stands for, where the ledger holds it
 abbrev pub tree_named : State → Option ℕ → Option Tree

@@ -1,6 +1,7 @@
 pub mod State
 pub mod Step
 pub mod Law
+pub mod Printed
 pub mod Held
 pub mod Tokens
 pub mod Session

@@ -108,6 +108,10 @@ pub struct Reading {
     pub can_retry: bool,
     pub can_retry_lenient: bool,
     pub cause: FrameError,
+    // its three printed forms
+    pub tree: Vec<u8>,
+    pub chain: Vec<u8>,
+    pub inline: Vec<u8>,
 }
 
 // The answer to each event, and of each report that came to be its reading, if it stands at the end.

@@ -11,22 +11,12 @@ use crate::names::{rename, reserve};
 use crate::session::Session;
 use crate::stop::Stop;
 use host::host::Host;
-use nodes::node::{Node, Note};
+use nodes::node::{BLANK, Node};
 use std::alloc::Global;
 use store::chain::ChainedError;
 use store::store::Store;
 use store::token::{Exn, Refusal};
 use vocabulary::fault::StoreFault;
-use vocabulary::frame_error::FrameError;
-
-// A node of zeros.
-pub(crate) const BLANK: Node = Node {
-    error: FrameError::Host(0),
-    place: 0,
-    native: false,
-    parent: None,
-    note: Note::Clear,
-};
 
 impl Session {
     // A report becomes a chain.

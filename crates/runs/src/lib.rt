@@ -6,6 +6,7 @@ mod baskets;
 pub mod call;
 mod chain_calls;
 mod names;
+mod printing;
 mod reading;
 mod report_calls;
 mod reports;

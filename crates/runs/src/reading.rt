@@ -8,11 +8,11 @@ ghost use Rattle.runs.specs.Law.{AllRead, ReadIf, Reads, tree_named};
 ghost use Rattle.runs.specs.Session.{Stands, state_of};
 
 use crate::call::Reading;
-use crate::chain_calls::BLANK;
+use crate::printing::{chain_of, tree_of};
 use crate::session::Session;
 use chains::iter::list_nodes;
 use host::host::Host;
-use nodes::node::Node;
+use nodes::node::{BLANK, Node};
 use questions::report::{can_retry, can_retry_lenient, dominant_class, probable_cause, retry};
 use std::alloc::{AllocError, Global};
 use store::store::Store;
@@ -57,7 +57,10 @@ pub(crate) fn read<H: Host, P: Policy>(
     requires { ∥ ((t : Tree) × Held (H.Host.errors host.now) store.now report.now t) ∥₁ }
     ensures { (t : Tree) → Held (H.Host.errors host.now) store.now report.now t → IfOk result (λ r. Reads (H.Host.errors host.now) (P.Policy.accepted policy.now) t r) }
 {
-    let nodes = nodes_of(alloc, store, host, report)?;
+    let mut nodes = nodes_of(alloc, store, host, report)?;
+    let tree = tree_of(alloc, store, host, report, &mut nodes)?;
+    let chain = chain_of(alloc, host, &nodes, false)?;
+    let inline = chain_of(alloc, host, &nodes, true)?;
     Ok(Reading {
         nodes,
         class: dominant_class(store, host, report).unwrap(),
@@ -65,6 +68,9 @@ pub(crate) fn read<H: Host, P: Policy>(
         can_retry: can_retry(store, host, report).unwrap(),
         can_retry_lenient: can_retry_lenient(store, host, report).unwrap(),
         cause: probable_cause(store, host, report).unwrap(),
+        tree,
+        chain,
+        inline,
     })
 }
 

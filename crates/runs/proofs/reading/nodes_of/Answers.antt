@@ -1,6 +1,5 @@
-use Rattle.std.proofs.Common.{List, length, drop, take, ◌++◌, sym, ◌∙◌, ap, refl}
+use Rattle.std.proofs.Common.{length, drop, sym, ◌∙◌, ap}
 use Rattle.std.proofs.lemmas.List.{take_at}
-use Rattle.nodes.specs.declared.node.Node.{Node}
 use Rattle.runs.proofs.Readings.{counted, listed}
 use Rattle.runs.specs.Held.{nodes_needed}
 use Rattle.runs.proofs.reading.nodes_of.Goals as goal
