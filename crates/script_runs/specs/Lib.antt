@@ -1,0 +1,3 @@
+pub mod Steps
+pub mod Runs
+pub mod Working
