@@ -9,7 +9,7 @@ use Rattle.ledger.specs.Causes.{list_cause}
 use Rattle.readings.specs.Readings.{errors_of, first_not_live}
 use Rattle.traversal.specs.declared.order.Visit.{Visit}
 use Rattle.traversal.specs.Order.{visited, Ordered}
-use Rattle.traversal.specs.Spread.{Begun}
+use Rattle.traversal.specs.Spread.{BegunWithin}
 use Rattle.traversal.specs.Survey.{or_else, survey_of}
 
 -- the order of a report has its frames
@@ -24,11 +24,13 @@ counted h t n q = go (first_not_live h (errors_of h t)) q
     go None q = (refl, let y : n ≡ length (flattening h t) = cc in y)
     go (Some e) q = absurd cc
 
--- the order has the frames of the report, and this is the number of its nodes
-pub begun : (h : Errors) (order : List Visit) (total n : ℕ) (t : Tree) → map visited order ≡ frame_list t → Ok total ≡ survey_of h t → n ≡ total → Begun h (map visited order) n t
-begun h order total n t is q same = record {
+-- there is room for the nodes of the report
+pub begun : (h : Errors) (order : List Visit) (total room : ℕ) (t : Tree) → map visited order ≡ frame_list t → Ok total ≡ survey_of h t → total ≤ room
+    → BegunWithin h (map visited order) room total t
+begun h order total room t is q le = record {
   frames = is;
-  nodes = same ∙ (counted h t total q).1 ∙ flattening-length h t;
+  nodes = (counted h t total q).1 ∙ flattening-length h t;
+  fits = le;
 }
 
 -- no cause is left where the nodes were counted and fit

@@ -2,7 +2,7 @@
 use Rattle.std.proofs.lemmas.Grind.{common_steps}
 use Rattle.std.proofs.lemmas.Bool.Decides.{nat_tests}
 use Rattle.std.proofs.Common.{◌≡◌, ℕ, zero, suc, ◌+◌, ◌<◌, ◌≤◌, List, [], ◌∷◌, ◌++◌, map, length, get_or, take, drop, set, Some, None, sym, refl, ap, ◌∙◌, subst, ap₂, append_assoc, add-zero, add-one, arith}
-use Rattle.std.proofs.lemmas.List.{append-nil, length-append, length-map, length-set, map-append, drop_at, drop-drop, drop_more, get_or_at, get_or-set_same, take_at}
+use Rattle.std.proofs.lemmas.List.{append-nil, length-append, length-map, length-set, length-take-le, map-append, drop_at, drop-drop, drop_more, get_or_at, get_or-set_same, take_at}
 use Rattle.model.specs.Host.{Errors, Lawful}
 use Rattle.trees.specs.Trees.{Tree, only}
 use Rattle.nodes.specs.declared.node.Node.{Node}
@@ -15,7 +15,7 @@ use Rattle.nodes.proofs.Queue.{weight-length, breadth_queue, weight_append, weig
 use Rattle.traversal.specs.declared.flatten.Progress.{Progress}
 use Rattle.traversal.specs.declared.order.Visit.{Visit}
 use Rattle.traversal.specs.Order.{visited}
-use Rattle.traversal.specs.Spread.{Wait, of_source, of_frame, born, entry_in, error_source, frames_in, from_forest, from_source, trees, wait_node, NextBelow, Waits, Grown, InOrder, Spread, Begun}
+use Rattle.traversal.specs.Spread.{Wait, of_source, of_frame, born, entry_in, error_source, frames_in, from_forest, from_source, trees, wait_node, NextBelow, Waits, Grown, InOrder, Spread, Begun, BegunWithin}
 use Rattle.traversal.specs.Start.{blank_node}
 use Rattle.traversal.specs.Walk.{unvisited}
 use Rattle.traversal.proofs.Lists.{reads as reads-order}
@@ -157,6 +157,13 @@ module _ (h : Errors) (span : ℕ) (l : Lawful h span) (ys : List (Item FrameCon
       go q (suc f) e z = absurd (let a = s.falls in omega arith)
       go (v ∷ q) zero e z = grind (arith, nat_tests)
       go [] zero e z = grind (arith, common_steps)
+
+-- where a list has room for the nodes, its part of so many places has as many places as there are nodes
+pub part : (h : Errors) (ys : List (Item FrameContent)) (list : List Node) (total : ℕ) (t : Tree) → BegunWithin h ys (length list) total t → Begun h ys (length (take total list)) t
+part h ys list total t b = record {
+  frames = b.frames;
+  nodes = length-take-le total list b.fits ∙ b.nodes;
+}
 
 -- the first frame of an order, and those after it
 first_frame : (t : Tree) → frame_list t ≡ record { parent = None; value = record { error = t.error; place = t.place } } ∷ queue (count (frame_rows t.children)) 1 (under (Some 0) (frame_rows t.children))

@@ -136,3 +136,9 @@ pub record Spread (h : Errors) (ys : List (Item FrameContent)) (before now : Lis
 pub record Begun (h : Errors) (ys : List (Item FrameContent)) (n : ℕ) (t : Tree) : Type 0 where
   pub frames : ys ≡ frame_list t
   pub nodes : n ≡ count (nodes_of h t)
+
+-- a list of `room` places is to take the nodes of a tree, which are `total` and whose frames stand in the order
+pub record BegunWithin (h : Errors) (ys : List (Item FrameContent)) (room total : ℕ) (t : Tree) : Type 0 where
+  pub frames : ys ≡ frame_list t
+  pub nodes : total ≡ count (nodes_of h t)
+  pub fits : total ≤ room

@@ -6,7 +6,7 @@ ghost use Rattle.nodes.specs.Flattening.{flattening, listed};
 ghost use Rattle.nodes.specs.Nodes.{frame};
 ghost use Rattle.traversal.specs.Order.{visited};
 ghost use Rattle.traversal.specs.Put.{Put};
-ghost use Rattle.traversal.specs.Spread.{Begun, Grown, NextFrames, Wait, Waits, from_forest, source_of_node, trees, wait_node};
+ghost use Rattle.traversal.specs.Spread.{Begun, BegunWithin, Grown, NextFrames, Wait, Waits, from_forest, source_of_node, trees, wait_node};
 ghost use Rattle.traversal.specs.Start.{blank_node};
 
 use crate::order::Visit;
@@ -112,9 +112,9 @@ fn append_below<H: Host>(
     }
 }
 
-// Writes the nodes of a report, whose frames stand in the order, breadth-first into a list of as many places.
+// Fills a list with the nodes of a report, breadth-first: it has as many places, and the frames stand in the order.
 // The loop counts, since the list that it goes through is written meanwhile.
-pub fn flatten<H: Host>(host: &H, order: &[Visit], list: &mut [Node])
+fn fill<H: Host>(host: &H, order: &[Visit], list: &mut [Node])
     requires { ∥ ((t : Tree) × Begun (H.Host.errors host.now) (map visited order.now) (length list.old) t) ∥₁ }
     ensures { (t : Tree) → Begun (H.Host.errors host.now) (map visited order.now) (length list.old) t → list.new ≡ flattening (H.Host.errors host.now) t }
 {
@@ -127,4 +127,14 @@ pub fn flatten<H: Host>(host: &H, order: &[Visit], list: &mut [Node])
     for i in 0..list.len() {
         at = append_below(host, order, i, list, at);
     }
+}
+
+// Writes the nodes of a report breadth-first into the front of a list, and leaves the rest as it was. The report's frames
+// stand in the order, and its nodes are `total`.
+pub fn flatten<H: Host>(host: &H, order: &[Visit], list: &mut [Node], total: usize)
+    requires { ∥ ((t : Tree) × BegunWithin (H.Host.errors host.now) (map visited order.now) (length list.old) total t) ∥₁ }
+    ensures { (t : Tree) → BegunWithin (H.Host.errors host.now) (map visited order.now) (length list.old) total t
+        → list.new ≡ flattening (H.Host.errors host.now) t ++ drop total list.old }
+{
+    fill(host, order, &mut list[..total]);
 }

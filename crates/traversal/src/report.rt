@@ -29,6 +29,6 @@ pub fn flatten_report<H: Host>(
     if list.len() < total {
         return Err(StoreFault::ListTooShort(total));
     }
-    flatten(host, order, &mut list[..total]);
+    flatten(host, order, list, total);
     Ok(total)
 }

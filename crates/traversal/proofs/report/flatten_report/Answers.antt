@@ -1,6 +1,4 @@
-use Rattle.std.proofs.Common.{List, drop, ◌++◌, ap, arith}
-use Rattle.std.proofs.lemmas.List.{length-take-le}
-use Rattle.nodes.specs.declared.node.Node.{Node}
+use Rattle.std.proofs.Common.{arith}
 use Rattle.trees.proofs.Options.{there}
 use Rattle.traversal.proofs.Reports.{order_is, begun, counted, no_cause}
 use Rattle.traversal.proofs.Walks.{report_few}
@@ -10,7 +8,7 @@ pub flatten-requires : goal.flatten-requires
 flatten-requires g c =
     let t = there _ c.requires in
     let is = order_is _ _ _ t.0 t.1 c.breadth_first.ensures c.as_slice-order.ensures.value in
-    ∣ (t.0, begun _ _ _ _ t.0 is (c.in_ok-total.ensures.report t.0 is) (length-take-le c.in_ok-total.total c.args.list.now c.if-list-total.false)) ∣₁
+    ∣ (t.0, begun _ _ _ _ t.0 is (c.in_ok-total.ensures.report t.0 is) c.if-list-total.false) ∣₁
 
 pub returns : goal.returns
 returns g c = λ t e.
@@ -18,7 +16,7 @@ returns g c = λ t e.
     let said = c.in_ok-total.ensures.report t is in (
       no_cause _ t _ _ said c.if-list-total.false,
       (counted _ t _ said).1,
-      ap (λ (z : List Node). z ++ drop c.in_ok-total.total c.args.list.now) (c.flatten.ensures t (begun _ _ _ _ t is said (length-take-le c.in_ok-total.total c.args.list.now c.if-list-total.false))),
+      c.flatten.ensures t (begun _ _ _ _ t is said c.if-list-total.false),
     )
 
 pub breadth_first-requires : goal.breadth_first-requires

@@ -3,7 +3,7 @@ use Rattle.trees.specs.Trees.{Tree}
 use Rattle.traversal.specs.Order.{visited}
 use Rattle.traversal.specs.Spread.{Begun, Spread}
 use Rattle.traversal.proofs.Spreads.{root_of}
-use Rattle.traversal.proofs.flatten.flatten.Given as goal
+use Rattle.traversal.proofs.flatten.fill.Given as goal
 
 abbrev pub invariant-loop-i : goal.invariant-loop-i
 invariant-loop-i g l = (t : Tree) → Begun (g.H.Host.errors l.host) (map visited l.order) (length l.initial.list) t
