@@ -1,5 +1,5 @@
 -- The drive host keeps the rules of a host.
-use Rattle.std.specs.Prelude.{◌≡◌, ℕ, ◌-◌, ◌<◌, ◌≤◌, true, false, ltb, List, ◌++◌, length, is_some, Some, None, Option, nat_lt, refl}
+use Rattle.std.specs.Prelude.{◌≡◌, ℕ, ◌+◌, ◌-◌, ◌/◌, ◌%◌, ◌<◌, ◌≤◌, true, false, ltb, List, [], ◌∷◌, ◌++◌, length, is_some, Some, None, Option, nat_lt, refl}
 use Rattle.std.proofs.Common.{ap, subst, arith, length-append, lt-ltb, ltb-true, ltb-false}
 use Rattle.std.proofs.lemmas.Bool.{cond-true, cond_both}
 use Rattle.std.proofs.lemmas.Option.{slice_get-get_or}
@@ -23,8 +23,11 @@ record Good (e : ℕ) (m : Error) : Type 0 where
   open_kind : sourceless m.kind ≡ false
   below : Below e m.source
 
+decimal_short : (k : ℕ) → length (decimal k) ≤ 2
+decimal_short k = cond_both (nat_lt k 10) ((48 + k) ∷ []) ((48 + k / 10) ∷ (48 + k % 10) ∷ []) (λ (ds : List ℕ). length ds ≤ 2) (λ _. omega arith) (λ _. omega arith)
+
 label_short : (word : List ℕ) (k : ℕ) → length word ≤ 6 → length (word ++ decimal k) ≤ 255
-label_short word k h = cond_both (nat_lt k 10) _ _ (λ (ds : List ℕ). length (word ++ ds) ≤ 255) (λ _. simp length-append (omega arith)) (λ _. simp length-append (omega arith))
+label_short word k h = let d = decimal_short k in simp length-append (omega arith)
 
 gauge-good : (e : ℕ) (m : Error) → e < 16 → gauge e ≡ Some m → Good e m
 gauge-good e m h = go (io_kind_at e)
