@@ -1,5 +1,5 @@
 -- An error's chain: one step down it, its deepest challenge, its pairs, and what they come to.
-use Rattle.std.proofs.Common.{◌≡◌, ℕ, zero, suc, ◌≤◌, Bool, true, false, cond, not, ◌&&◌, ◌||◌, List, [], ◌∷◌, map, Some, None, Ok, Option, ◌==◌, sym, refl, ap, ◌∙◌, subst, arith}
+use Rattle.std.proofs.Common.{◌≡◌, ℕ, zero, suc, ◌≤◌, Bool, true, false, cond, not, ◌&&◌, ◌||◌, List, [], ◌∷◌, is_some, map, Some, None, Ok, Option, ◌==◌, sym, refl, ap, ◌∙◌, subst, arith}
 use Rattle.std.proofs.lemmas.Iterator.{YieldsList, items_from_drains}
 use Rattle.std.proofs.lemmas.List.{map-id}
 use Rattle.std.specs.Iterator.{Drains}
@@ -14,9 +14,9 @@ use Rattle.vocabulary.specs.declared.kind.Kind.TheVariants.{Plain, Message, Clas
 use Rattle.vocabulary.specs.declared.policy.Pair.{Pair}
 use Rattle.model.specs.Challenge.{or, deepest, beneath}
 use Rattle.model.specs.Host.{Error, Errors, Lawful, answer}
-use Rattle.model.specs.Judge.{any, any_pair, challenge_beneath, is_challenge, kind_pair, least_class, may_retry, pair_of, pairs_of, told}
+use Rattle.model.specs.Judge.{any, any_pair, challenge_beneath, has_rank, is_challenge, kind_pair, least_class, may_retry, pair_of, pairs_of, stated_class, told}
 use Rattle.model.specs.Sources.{bound, chain, chain_up_to, chain_from, source_of, LiveOrNone}
-use Rattle.host.specs.Findings.{findings_of, is_denied, retries}
+use Rattle.host.specs.Findings.{findings_of, findings_with, is_denied, retries}
 use Rattle.host.specs.declared.judge.Findings.{Findings}
 use Rattle.model.proofs.Judge.{Decided, decided, lesser_assoc, chain_falls, cancelled_least}
 use Rattle.model.proofs.Sources.{enough, source-bound, source-live}
@@ -33,6 +33,26 @@ constantly o e f a b q = let m = answered o e f a q in sym (ap (λ (x : Option E
 pub no_chain : (h : Errors) (at : Option ℕ) → at ≡ None → chain_from h at ≡ []
 unfolding chain_up_to
 no_chain h at p = ap (chain_from h) p
+
+or-none : (a : Option ℕ) → or a None ≡ a
+or-none None = refl
+or-none (Some x) = refl
+
+-- a denied permission is live, and no challenge
+record Denied (o : Option Error) : Type 0 where
+  live : is_some o ≡ true
+  none : is_challenge o ≡ false
+
+denied : (o : Option Error) → is_denied (told o false) ≡ true → Denied o
+denied None q = absurd cc
+denied (Some m) q = record { live = refl; none = by_kind m.kind q }
+  where
+    by_kind : (k : Kind) → is_denied (kind_pair k false) ≡ true → has_rank 6 (stated_class k) ≡ false
+    by_kind Plain q = refl
+    by_kind (Message c) q = absurd cc
+    by_kind (ClassificationMarker c) q = absurd cc
+    by_kind TryReserveError q = refl
+    by_kind (Io k) q = refl
 
 module _ (h : Errors) (span : ℕ) (l : Lawful h span) where
   -- the source of an error, live or not
@@ -55,6 +75,20 @@ module _ (h : Errors) (span : ℕ) (l : Lawful h span) where
   pub chain_next : (at : Option ℕ) (e : ℕ) → at ≡ Some e → chain_from h at ≡ e ∷ chain_from h (source_of (h e))
   unfolding chain_up_to
   chain_next at e p = ap (chain_from h) p ∙ ap (λ (xs : List ℕ). e ∷ xs) (rest e e (omega arith))
+
+  -- where a chain begins with an error, it is that error's chain and goes on with that of its source
+  pub record Goes (e : ℕ) (es : List ℕ) : Type 0 where
+    pub whole : e ∷ es ≡ chain h e
+    pub later : es ≡ chain_from h (source_of (h e))
+
+  pub chain_goes : (at : Option ℕ) (e : ℕ) (es : List ℕ) → e ∷ es ≡ chain_from h at → Goes e es
+  unfolding chain_up_to
+  chain_goes None e es q = absurd cc
+  chain_goes (Some d) e es q =
+      let next = chain_next (Some d) d refl in
+      let same : e ≡ d = cc in
+      let later : es ≡ chain_from h (source_of (h d)) = cc in
+      record { whole = q ∙ ap (chain h) (sym same); later = later ∙ ap (λ (x : ℕ). chain_from h (source_of (h x))) (sym same) }
 
   -- where one number decides for each error of a chain, it gives their pairs
   decided_pairs : (c : Option ℕ) (n : ℕ) (o : Option ℕ) → bound o ≤ n → Decided h c (chain_up_to h n o) → map (λ e. told (h e) (beneath c e)) (chain_up_to h n o) ≡ pairs_of h (chain_up_to h n o)
@@ -79,6 +113,14 @@ module _ (h : Errors) (span : ℕ) (l : Lawful h span) where
     unfolding chain_up_to
     pair_is = ap (told (h e)) (sym decides.0 ∙ ap (any (λ x. is_challenge (h x))) (rest e e (omega arith)))
 
+  -- a denied permission is no challenge, so the deepest one beneath it decides for its whole chain
+  pub denied_pairs : (e : ℕ) (c : Option ℕ) → is_denied (told (h e) false) ≡ true → c ≡ deepest h (chain_from h (source_of (h e))) → map (λ e. told (h e) (beneath c e)) (chain h e) ≡ pairs_of h (chain h e)
+  denied_pairs e c d q =
+      let o = denied (h e) d in
+      let below = chain_from h (source_of (h e)) in
+      pairs_are e c o.live
+      (q ∙ sym (ap (λ (es : List ℕ). deepest h es) (chain_next (Some e) e refl) ∙ ap (λ (b : Bool). or (deepest h below) (cond b (Some e) None)) o.none ∙ or-none (deepest h below)))
+
 -- the answer of `last`, from its clause `ran`
 pub last_from_yields : {S A : Type 0} {steps : S → Option A → S → Type 0} {s : S} {all : List A} (r : Option A) → ((xs : List A) × Drains steps s xs × (r ≡ last_or None xs)) → YieldsList steps (λ x. x) s all → r ≡ last_or None all
 last_from_yields r ran y = let d = ran.1 in ran.2 ∙ ap (last_or None) (sym (map-id ran.0) ∙ items_from_drains ran.0 (d.1.0, d.1.1, λ _. (d.0, d.1.2)) y)
@@ -99,10 +141,6 @@ last_challenge h o (x ∷ xs) = go (last_challenge h (Some x) xs) (last_challeng
 
 pub deepest_is : (h : Errors) (xs : List ℕ) → last_or None (filter (λ e. is_challenge (h e)) xs) ≡ deepest h xs
 deepest_is h xs = last_challenge h None xs ∙ or-none (deepest h xs)
-  where
-    or-none : (a : Option ℕ) → or a None ≡ a
-    or-none None = refl
-    or-none (Some x) = refl
 
 -- the pair of what is no denied permission does not depend on what stands beneath it
 pub undenied : (o : Option Error) (b : Bool) → is_denied (told o false) ≡ false → told o false ≡ told o b
@@ -124,7 +162,7 @@ undenied (Some m) b q = by_kind m.kind q
 abbrev pub with_pair : (Pair → Bool) → Findings → Pair → Findings
 with_pair accepts f p = record { class = lesser f.class p.class; accepted = f.accepted || accepts p }
 
-pub folded : (accepts : Pair → Bool) (f : Findings) (ps : List Pair) → fold (with_pair accepts) f ps ≡ record { class = lesser f.class (least_class ps); accepted = f.accepted || any_pair accepts ps }
+pub folded : (accepts : Pair → Bool) (f : Findings) (ps : List Pair) → fold (with_pair accepts) f ps ≡ findings_with accepts f ps
 folded accepts f [] = λ i. record { class = sym (lesser-none f.class) i; accepted = sym (or-false f.accepted) i }
   where
     lesser-none : (a : Option Class) → lesser a None ≡ a

@@ -1,15 +1,15 @@
 // Class and pair of an error, and what an error comes to together with the sources beneath it. The host and the error's
 // number stand side by side as in the questions of `Host`: a type for both would only be taken apart again to ask them.
-ghost use Rattle.std.specs.Prelude.{◌≡◌, Bool, ◌||◌, if◌then◌else◌, Some, None};
+ghost use Rattle.std.specs.Prelude.{◌≡◌, Bool, true, false, ◌||◌, if◌then◌else◌, Some, None};
 ghost use Rattle.classes.specs.Class.{lesser};
 ghost use Rattle.model.specs.Challenge.{beneath, deepest};
 ghost use Rattle.model.specs.Host.{answer};
 ghost use Rattle.model.specs.Judge.{io_error_class, is_challenge, kind_pair, least_class, may_retry, pair_of, told};
 ghost use Rattle.model.specs.Sources.{chain};
-ghost use Rattle.host.specs.Findings.{chain_pairs, findings_of, is_denied, retries};
+ghost use Rattle.host.specs.Findings.{chain_pairs, findings_of, findings_with, is_denied, retries};
 
 use crate::host::Host;
-use crate::sources::Chain;
+use crate::sources::{Chain, source_of};
 use classes::class::{Class, ResourceExhaustionKind};
 use vocabulary::fault::HostFault;
 use vocabulary::io_kind::IoKind;
@@ -98,15 +98,18 @@ fn pair_in_chain<H: Host>(host: &H, error: u16, challenge: Option<u16>) -> Pair
         .map_or(NO_PAIR, |kind| pair_of_kind(kind, challenged))
 }
 
+// The deepest authentication challenge of a chain.
+fn deepest_of<H: Host>(host: &H, chain: Chain<'_, H>) -> Option<u16>
+    ensures { result ≡ deepest (H.Host.errors host.now) chain.entry }
+{
+    chain.filter(|e| is_challenge(host, *e)).last()
+}
+
 // The deepest authentication challenge among an error and the sources beneath it.
 fn deepest_challenge<H: Host>(host: &H, error: u16) -> Result<Option<u16>, HostFault>
     ensures { result ≡ answer (H.Host.errors host.now error) error (λ _. deepest (H.Host.errors host.now) (chain (H.Host.errors host.now) error)) }
 {
-    Ok(
-        Chain::of(host, error)?
-            .filter(|e| is_challenge(host, *e))
-            .last(),
-    )
+    Ok(deepest_of(host, Chain::of(host, error)?))
 }
 
 // The pair of an error: its class, and its io kind where it is an io error.
@@ -124,25 +127,23 @@ fn is_denied(pair: Pair) -> bool
     pair.io_kind == Some(IoKind::PermissionDenied)
 }
 
-// The same for any chain: in one pass after the deepest challenge is found.
-fn judge_challenged<H: Host, P: Policy>(
-    host: &H,
-    policy: &P,
-    error: u16,
-) -> Result<Findings, HostFault>
-    ensures { result ≡ answer (H.Host.errors host.now error) error (λ _. findings_of (P.Policy.accepted policy.now) (chain_pairs (H.Host.errors host.now) error)) }
+// What was found above a denied permission, joined with what that error and the sources beneath it come to. The chain
+// from there on is gone over twice: for the deepest challenge beneath, and for the findings.
+fn judge_denied<H: Host, P: Policy>(host: &H, policy: &P, error: u16, found: Findings) -> Findings
+    requires { is_denied (told (H.Host.errors host.now error) false) ≡ true }
+    ensures { result ≡ findings_with (P.Policy.accepted policy.now) found (chain_pairs (H.Host.errors host.now) error) }
 {
-    let challenge = deepest_challenge(host, error)?;
-    Ok(
-        Chain::of(host, error)?
-            .map(|e| pair_in_chain(host, e, challenge))
-            .fold(Findings::default(), |found, pair| {
-                found.with(pair, policy.accepts(pair))
-            }),
-    )
+    let beneath = Chain::starting_at(host, source_of(host, error));
+    let challenge = deepest_of(host, beneath);
+    Chain::starting_at(host, Some(error))
+        .map(|e| pair_in_chain(host, e, challenge))
+        .fold(found, |found, pair| {
+            found.with(pair, policy.accepts(pair))
+        })
 }
 
-// What an error and the sources beneath it come to under a policy. One pass suffices where no permission is denied.
+// What an error and the sources beneath it come to under a policy. Only the class of a denied permission depends on the
+// sources beneath it, so one pass suffices down to the first of these.
 pub fn judge_chain<H: Host, P: Policy>(
     host: &H,
     policy: &P,
@@ -154,7 +155,7 @@ pub fn judge_chain<H: Host, P: Policy>(
     for e in Chain::of(host, error)? {
         let pair = pair_in_chain(host, e, None);
         if is_denied(pair) {
-            return judge_challenged(host, policy, error);
+            return Ok(judge_denied(host, policy, e, found));
         }
         found = found.with(pair, policy.accepts(pair));
     }

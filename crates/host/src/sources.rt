@@ -2,7 +2,7 @@
 ghost use Rattle.std.specs.Prelude.{◌≡◌, length};
 ghost use Rattle.std.specs.Iterator.{YieldsFirst, item_count};
 ghost use Rattle.model.specs.Host.{answer};
-ghost use Rattle.model.specs.Sources.{chain, source_of};
+ghost use Rattle.model.specs.Sources.{chain, chain_from, source_of};
 
 use crate::host::Host;
 use std::marker::Model;
@@ -30,10 +30,14 @@ impl<'a, H: Host> Chain<'a, H> {
         ensures { result ≡ answer (H.Host.errors host.now error) error (λ _. chain (H.Host.errors host.now) error) }
     {
         host.kind(error)?;
-        Ok(Chain {
-            host,
-            at: Some(error),
-        })
+        Ok(Chain::starting_at(host, Some(error)))
+    }
+
+    // The chain that begins with an error, or an empty one. It asks the host nothing.
+    pub(crate) fn starting_at(host: &'a H, at: Option<u16>) -> Chain<'a, H>
+        ensures { result ≡ chain_from (H.Host.errors host.now) at }
+    {
+        Chain { host, at }
     }
 }
 
@@ -64,5 +68,6 @@ pub fn source_of<H: Host>(host: &H, error: u16) -> Option<u16>
 pub fn chain_len<H: Host>(host: &H, error: u16) -> Result<usize, HostFault>
     ensures { result ≡ answer (H.Host.errors host.now error) error (λ _. length (chain (H.Host.errors host.now) error)) }
 {
-    Ok(Chain::of(host, error)?.count())
+    let source = host.source(error)?;
+    Ok(1 + Chain::starting_at(host, source).count())
 }
