@@ -1,4 +1,4 @@
-ghost use Rattle.std.specs.Prelude.{◌≡◌, ℕ, Bool, cond, ◌&&◌, is_some, length, IfOk, None, Ok, Err, vec_len, slice_index_or, ok_or};
+ghost use Rattle.std.specs.Prelude.{◌≡◌, ℕ, Bool, cond, ◌&&◌, is_some, length, IfOk, Some, None, Ok, Err, vec_len, slice_index_or, ok_or};
 ghost use Rattle.table_host.specs.Table.{live as live_in, live_kind, live_record, record_fits, record_kind, source_live, table_errors, table_span};
 ghost use Rattle.table_host.specs.TableLaws.{table_lawful};
 ghost use Rattle.vocabulary.specs.declared.fault.HostFault.TheVariants.{NotLive};
@@ -32,14 +32,11 @@ impl Record {
         Kind::try_from((self.kind, self.detail)).ok()
     }
 
-    // Whether the record of number `error` keeps the rules by itself, over so many bytes of text.
-    fn fits(&self, error: u16, size: usize) -> bool
+    // Whether the record of number `error`, of a kind, keeps the rules by itself, over so many bytes of text.
+    fn fits(&self, kind: Kind, error: u16, size: usize) -> bool
+        requires { record_kind self.now ≡ Some kind }
         ensures { result ≡ record_fits size error self.now }
     {
-        // a closure around the rest would be no plainer
-        let Some(kind) = self.named_kind() else {
-            return false;
-        };
         let source_fits = self
             .source
             .is_none_or(|source| source < error && !kind.is_sourceless());
@@ -54,11 +51,12 @@ fn kind_beside(kinds: &[Option<Kind>], error: u16) -> Option<Kind>
     kinds.get(usize::from(error)).copied().unwrap_or(None)
 }
 
-// Whether the record of number `error` is live, where the kinds of those before it are known.
-fn lives(kinds: &[Option<Kind>], record: &Record, error: u16, size: usize) -> bool
+// Whether the record of number `error`, of a kind, is live, where the kinds of those before it are known.
+fn lives(kinds: &[Option<Kind>], record: &Record, kind: Kind, error: u16, size: usize) -> bool
+    requires { record_kind «record».now ≡ Some kind }
     ensures { result ≡ record_fits size error «record».now && source_live (λ d. is_some (slice_index_or kinds.now d None)) «record».now.source }
 {
-    record.fits(error, size)
+    record.fits(kind, error, size)
         && record
             .source
             .is_none_or(|source| kind_beside(kinds, source).is_some())
@@ -68,11 +66,8 @@ fn lives(kinds: &[Option<Kind>], record: &Record, error: u16, size: usize) -> bo
 fn kind_if_live(kinds: &[Option<Kind>], record: &Record, error: u16, size: usize) -> Option<Kind>
     ensures { result ≡ cond (record_fits size error «record».now && source_live (λ d. is_some (slice_index_or kinds.now d None)) «record».now.source) (record_kind «record».now) None }
 {
-    if lives(kinds, record, error, size) {
-        record.named_kind()
-    } else {
-        None
-    }
+    let kind = record.named_kind()?;
+    lives(kinds, record, kind, error, size).then_some(kind)
 }
 
 // One pass over the records, from the first to the last that can be live.
