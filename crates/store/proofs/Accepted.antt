@@ -47,17 +47,19 @@ module _ {R : Type 0} {is_live : Ledger → R → Bool} {is_apart : R → ℕ �
           became = subst (λ (s : R). Became before after (raised (ledger_of before) s (Host e) p n)) root_is over;
         };
         fresh = frame.1;
+        no_root = frame.3;
         open_exn = record { store = over.number; unspent = refl };
       })
 
 -- the children of a report's root are a basket
 pub drained_into : (before after : Store) (x : Exn) (n : ℕ) (head : Option ℕ) (b : Basket) → report_held before x ≡ true → n ≡ x.root → after.number ≡ before.number
-    → Drained (frames_of before.frames) (frames_of after.frames) n head → b ≡ record { store = after.number; root = head; spent = false } → DrainedInto before after x b
-drained_into before after x n head b v e same d q =
+    → b ≡ record { store = after.number; root = head; spent = false } → Drained (frames_of before.frames) (frames_of after.frames) n head → DrainedInto before after x b
+drained_into before after x n head b v e same q d =
     let d' = subst (λ (k : ℕ). Drained (frames_of before.frames) (frames_of after.frames) k head) e d in
     subst (λ (b : Basket). DrainedInto before after x b) (sym q)
     (record {
       granted = record { free = ap (λ (t : Bool). held t None) v; became = record { number = same; holds = drains_as before after x.root head d' } };
       known = drains_known before after x.root head d';
+      no_roots = d'.fresh;
       open_basket = record { store = same; unspent = refl };
     })

@@ -261,4 +261,5 @@ module _ (s : Store) where
     ap (λ (t : Bool). unless t (fault.Host (NotLive x)) (unless (nat_lt 0 (free l)) (NoFrames 1) None)) v ∙ ap (λ (t : Bool). unless t (NoFrames 1) None) (some_free b.room),
     fresh_as s n b.fresh,
     record { number = same; holds = holds_as after _ _ _ b.means (λ j. refl) (λ j. refl) },
+    b.fresh,
   )

@@ -43,5 +43,6 @@ tree_built before after h xs root n k f e q le same b = record {
   explicit = sym (explicit-frames h xs f.0 f.1);
   room = let a = fits before h xs n k f e q le in let g = free_same before in omega arith;
   fresh = fresh_as before root (record { report = b.fresh.report; row = b.fresh.row });
+  no_root = record { report = b.fresh.report; row = b.fresh.row };
   became = record { number = same; holds = holds_as after _ _ _ b.means (λ j. refl) (λ j. refl) };
 }

@@ -8,7 +8,7 @@ use Rattle.trees.specs.Listings.{children_of}
 use Rattle.trees.specs.Trees.{empty}
 use Rattle.ledger.specs.Causes.{frame_cause, held, is_basket, is_held}
 use Rattle.ledger.specs.Ledger.{Ledger, Fresh, Known, chained, chained_all, collected, discarded, discarded_all, drained, first_of, first_root, made, raised, raised_all, rest_of, row_of, taken}
-use Rattle.store.specs.Store.{ledger_of, Became}
+use Rattle.store.specs.Store.{ledger_of, Became, NoRoot, is_in_row}
 use Rattle.store.specs.declared.store.Store.{Store}
 use Rattle.store.specs.declared.token.Refusal.{Refusal}
 use Rattle.store.specs.declared.token.Token.{Token}
@@ -16,7 +16,7 @@ use Rattle.store.specs.Token.{Basket, Exn}
 
 -- a new frame of its own is made, under a number that was no root; or nothing changes
 abbrev pub FrameMade : Store → Store → Errors → ℕ → ℕ → Result ℕ StoreFault → Type 0
-FrameMade before after h e p (Ok n) = (frame_cause (ledger_of before) h e ≡ None) × Fresh (ledger_of before) n × Became before after (made (ledger_of before) (Host e) p n)
+FrameMade before after h e p (Ok n) = (frame_cause (ledger_of before) h e ≡ None) × Fresh (ledger_of before) n × Became before after (made (ledger_of before) (Host e) p n) × NoRoot before n
 FrameMade before after h e p (Err f) = (frame_cause (ledger_of before) h e ≡ Some f) × (after ≡ before)
 
 -- A call is granted where no cause holds, and the store then holds what the ledger says.
@@ -56,6 +56,7 @@ basket_held s b = is_basket s.number (ledger_of s) b.store b.root
 pub record NewExn (before after : Store) (cause : Option StoreFault) (l : ℕ → Ledger) (y : Exn) : Type 0 where
   pub granted : Granted before after cause (l y.root)
   pub fresh : Fresh (ledger_of before) y.root
+  pub no_root : NoRoot before y.root
   pub open_exn : OpenExn before y
 
 abbrev pub Made : Store → Store → Errors → ℕ → ℕ → Result Exn StoreFault → Type 0
@@ -92,10 +93,11 @@ Discarded before after x r = Takes before after (held (report_held before x) Non
 abbrev pub DiscardedAll : Store → Store → Basket → Result (Unit {0}) (Refusal Basket) → Type 0
 DiscardedAll before after b r = Takes before after (held (basket_held before b) None) (discarded_all (ledger_of before) b.root) b r
 
--- the children become the row of a new basket
+-- the children become the row of a new basket, all under numbers that were no roots
 pub record DrainedInto (before after : Store) (x : Exn) (b : Basket) : Type 0 where
   pub granted : Granted before after (held (report_held before x) None) (drained (ledger_of before) x.root b.root)
   pub known : Known (ledger_of before) (children_of ((ledger_of before).reports x.root)) b.root
+  pub no_roots : (n : ℕ) → is_in_row after b.root n ≡ true → NoRoot before n
   pub open_basket : OpenBasket before b
 
 abbrev pub Drained : Store → Store → Exn → Result Basket StoreFault → Type 0

@@ -11,7 +11,7 @@ use Rattle.nodes.specs.Flattening.{flattening}
 use Rattle.ledger.specs.Causes.{held, list_cause}
 use Rattle.ledger.specs.Ledger.{Ledger, Fresh, discarded, free, rebuilt}
 use Rattle.store.specs.Calls.{Granted, OpenExn, TurnedDown, report_held}
-use Rattle.store.specs.Store.{Became, Holds, ledger_of}
+use Rattle.store.specs.Store.{Became, Holds, NoRoot, ledger_of}
 use Rattle.store.specs.declared.chain.ChainedError.{ChainedError}
 use Rattle.store.specs.declared.store.Store.{Store}
 use Rattle.store.specs.Token.{Exn}
@@ -52,6 +52,7 @@ pub record TreeBuilt (before after : Store) (h : Errors) (xs : List Node) (root 
   pub explicit : frames tree.children + 1 ≡ explicit_count xs
   pub room : frames tree.children + 1 ≤ free (ledger_of before)
   pub fresh : Fresh (ledger_of before) root
+  pub no_root : NoRoot before root
   pub became : Became before after (rebuilt (ledger_of before) tree root)
 
 -- it is the flattening of a tree for which fewer frames are free than it needs, which is `n`

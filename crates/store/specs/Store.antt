@@ -1,7 +1,8 @@
 -- What a store holds: its ledger.
-use Rattle.std.specs.Prelude.{◌≡◌, ℕ, Some, None, Option}
-use Rattle.trees.specs.Trees.{Forest, Listing, forest}
-use Rattle.frames.specs.Of.{reports_of, rows_of}
+use Rattle.std.specs.Prelude.{◌≡◌, ℕ, Bool, Some, None, Option}
+use Rattle.trees.specs.Trees.{Forest, Listing, among, forest}
+use Rattle.layout.specs.Calls.{Fresh, taken}
+use Rattle.frames.specs.Of.{frames_of, reports_of, rows_of}
 use Rattle.ledger.specs.Ledger.{Ledger}
 use Rattle.store.specs.declared.store.Store.{Store}
 
@@ -22,3 +23,12 @@ pub record Holds (s : Store) (l : Ledger) : Type 0 where
 pub record Became (before after : Store) (l : Ledger) : Type 0 where
   pub number : after.number ≡ before.number
   pub holds : Holds after l
+
+-- A number that is the root of no report of a store: of none alone, and of none in a row, at whatever place. The ledger,
+-- which knows no numbers of the reports in a row, says this of a row's first report alone.
+abbrev pub NoRoot : Store → ℕ → Type 0
+NoRoot s n = Fresh (frames_of s.frames) n
+
+-- whether a number is the root of a report in the row that is known by another, at whatever place
+abbrev pub is_in_row : Store → Option ℕ → ℕ → Bool
+is_in_row s o n = among n (taken (frames_of s.frames) o)
