@@ -87,7 +87,7 @@ fn live_kinds(
 }
 
 impl TableHost {
-    // The host of some records and bytes, however many there are. Where there is no memory for the marks, both come back.
+    // The host of some records and bytes, however many there are. Where there is no memory for the kinds, both come back.
     pub fn new(
         heap: Global,
         records: Vec<Record>,
@@ -119,11 +119,8 @@ impl TableHost {
     fn record(&self, error: u16) -> Result<Record, HostFault>
         ensures { result ≡ ok_or (live_record self.now.records.items (length self.now.bytes.items) error) (NotLive error) }
     {
-        self.records
-            .get(usize::from(error))
-            .copied()
-            .filter(|_| kind_beside(&self.kinds, error).is_some())
-            .ok_or(HostFault::NotLive(error))
+        kind_beside(&self.kinds, error).ok_or(HostFault::NotLive(error))?;
+        Ok(self.records[usize::from(error)])
     }
 }
 
