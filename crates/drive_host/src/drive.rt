@@ -18,6 +18,7 @@ use vocabulary::kind::Kind;
 pub struct DriveHost;
 
 // A word, and behind it a number below 100 in decimal.
+#[inline]
 fn spell(word: &str, reason: u8) -> ArrayString<8>
     requires { (length word.now ≤ 6) × (reason < 100) }
     ensures { result.bytes ≡ word.now ++ decimal reason }
@@ -32,6 +33,7 @@ fn spell(word: &str, reason: u8) -> ArrayString<8>
 }
 
 // The text of an error.
+#[inline]
 fn label_of(error: u16) -> Result<ArrayString<8>, HostFault>
     ensures { result_map_both (λ l. l.bytes) (λ f. f) result ≡ answer (drive_errors error) error (λ m. m.text) }
 {
